@@ -1,0 +1,3 @@
+pub mod Loops
+pub mod Choice
+pub mod Outcome
