@@ -1,0 +1,3 @@
+pub mod frequency_domain;
+pub mod scalar;
+pub mod transfer_fn;
