@@ -1,0 +1,95 @@
+// Support for the replay programs: the oracle's vectors are read from standard input, a word of eight bytes at a
+// time, and answers are counted. No contract can speak of what is read or written, so a function that reads or
+// writes promises nothing.
+
+ghost use mathlib.Core.Path.{_≡_};
+ghost use Prim.Native.Nat.{_<_, _≤_};
+ghost use lib.ListN.{length};
+
+pub enum Word {
+    Is(u64),
+    End,
+}
+
+pub fn next() -> Word {
+    let mut bytes = [0u8; 8];
+    if io::read_full(0, &mut bytes) < 8 {
+        return Word::End;
+    }
+    Word::Is(wire::u64_from_le_bytes(&bytes))
+}
+
+// The next word, and 0 past the end.
+pub fn number() -> u64 {
+    match next() {
+        Word::Is(n) => n,
+        Word::End => 0,
+    }
+}
+
+// The f64 whose bits are the next word.
+pub fn float() -> f64 {
+    wire::f64_from_bits(number())
+}
+
+// Fills the first `count` places of a list, or all where it is shorter, and answers how many that are.
+pub fn floats(list: &mut [f64], count: u64) -> usize
+    ensures { λ r. ⌜ (r ≤ length (now (list .entry))) × (length (now (list .exit)) ≡ length (now (list .entry))) ⌝ }
+{
+    let mut i: usize = 0;
+    while i < list.len() {
+        if count <= i as u64 {
+            return i;
+        }
+        list[i] = float();
+        i += 1;
+    }
+    i
+}
+
+// The place of a question's counts. A question from 16 on has that of question 0, which no file asks.
+fn place(question: u64) -> usize
+    ensures { λ r. ⌜ r < 16 ⌝ }
+{
+    if 16 <= question {
+        return 0;
+    }
+    question as usize
+}
+
+// How many answers to each question were compared, and how many of them differ.
+pub struct Tally {
+    pub asked: [u64; 16],
+    pub differ: [u64; 16],
+}
+
+impl Tally {
+    pub fn new() -> Self {
+        Self {
+            asked: [0; 16],
+            differ: [0; 16],
+        }
+    }
+
+    // One answer more.
+    pub fn count(mut self, question: u64, right: bool) -> Self {
+        let q = place(question);
+        self.asked[q] = std::num::wrapping_add_u64(self.asked[q], 1);
+        if !right {
+            self.differ[q] = std::num::wrapping_add_u64(self.differ[q], 1);
+        }
+        self
+    }
+
+    // A line for a question: how often it was asked, and how many answers differ.
+    pub fn line(self, question: usize, name: &[u8]) {
+        if question < 16 {
+            io::write_all(1, name);
+            io::write_all(1, b": ");
+            io::print_decimal(1, self.asked[question]);
+            io::write_all(1, b" asked, ");
+            io::print_decimal(1, self.differ[question]);
+            io::write_all(1, b" differ\n");
+        }
+    }
+}
