@@ -1,5 +1,10 @@
--- The numbers of the refusals. Definitions only.
+-- The numbers of the refusals, and the conditions of scans and grids. Definitions only.
 use Prim.Native.Nat.{ℕ}
+use mathlib.Core.Bool.{Bool, not}
+use lib.Dec.{ltb}
+use lib.Ieee.{Float, le}
+use Rattle.laws.specs.Outcome.{when}
+use Rattle.scalar.specs.Scalar.{f0}
 use Rattle.sweep.specs.declared.FreqError.{FreqError}
 use Rattle.sweep.specs.declared.FreqError.the-variants.{InsufficientPoints, InvalidFrequencyRange, InvalidParameter, LengthsDiffer, CubicLeftOut, TooFewPairs, NoRoom, TooMany, WrongOrder, WrongIndex, WrongByteCount}
 use Rattle.sweep.specs.declared.Check.{Check}
@@ -22,3 +27,11 @@ numberOf WrongByteCount = 19
 abbrev pub refusalOf : Check → ℕ
 refusalOf Passed = 0
 refusalOf (Refused e) = numberOf e
+
+-- A scan, or a part fed: 11 if list lengths differ; 15 above 4,096 readings.
+unfoldable pub scanRefusal : Bool → ℕ → ℕ
+scanRefusal same n = when (not same) 11 (when (ltb 4096 n) 15 0)
+
+-- A grid: 1 if n < 2; range if top ≤ 0, which a NaN passes; 15 if n > 4,096; 14 if the lent list is shorter than n. The range is 3 for gains, 2 for frequencies.
+unfoldable pub gridRefusal : ℕ → ℕ → Float → ℕ → ℕ
+gridRefusal range n top room = when (ltb n 2) 1 (when (le top f0) range (when (ltb 4096 n) 15 (when (ltb room n) 14 0)))

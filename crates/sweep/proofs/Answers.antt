@@ -1,0 +1,57 @@
+-- An answer is known by its outcome, and a scan's outcome by its conditions. Assumes nothing.
+use Prim.Native.Nat.{ℕ}
+use mathlib.Core.Path.{_≡_, refl, sym, ap, _∙_}
+use mathlib.Core.List.{List, []}
+use native.Mathlib.Omega.{arith}
+use borrow.Author.Tests.{ne-eqb}
+use lib.Ieee.{Float}
+use Rattle.laws.specs.Loops.{filled}
+use Rattle.laws.specs.Outcome.{Outcome, refused, answered}
+use Rattle.laws.proofs.Outcome.{found-values, apart}
+use Rattle.sweep.specs.Refusal.{numberOf, refusalOf}
+use Rattle.sweep.specs.Answer.{outcomeOf, crossingOutcome, scanned, outcomeOfGrid, gridded}
+use Rattle.sweep.specs.declared.FreqError.{FreqError}
+use Rattle.sweep.specs.declared.Check.{Check}
+use Rattle.sweep.specs.declared.Check.the-variants.{Passed, Refused}
+use Rattle.sweep.specs.declared.Crossing.{Crossing}
+use Rattle.sweep.specs.declared.Answer.{Answer}
+use Rattle.sweep.specs.declared.Answer.the-variants as answer
+use Rattle.sweep.specs.declared.Grid.the-variants as grid
+use Rattle.sweep.proofs.Numbers.{number-known, number-above, number-below}
+
+pub outcome-known : (p q : Answer) → outcomeOf p ≡ outcomeOf q → p ≡ q
+unfolding outcomeOf
+outcome-known (answer.Found x) (answer.Found y) h = let l = found-values h in let e : x ≡ y = cc in rw e
+outcome-known (answer.Found x) answer.Absent h = absurd (apart h (omega arith))
+outcome-known (answer.Found x) (answer.Refused f) h = absurd (apart h (number-above f))
+outcome-known answer.Absent (answer.Found y) h = absurd (apart (sym h) (omega arith))
+outcome-known answer.Absent answer.Absent h = refl
+outcome-known answer.Absent (answer.Refused f) h = absurd (apart (sym h) (number-below f))
+outcome-known (answer.Refused e) (answer.Found y) h = absurd (apart (sym h) (number-above e))
+outcome-known (answer.Refused e) answer.Absent h = absurd (apart h (number-below e))
+outcome-known (answer.Refused e) (answer.Refused f) h = ap answer.Refused (number-known e f (ap (λ (o : Outcome). o .number) h))
+
+not-zero : (e : FreqError) → numberOf e ≡ 0 → ⊥
+not-zero e h = let p = number-above e in omega arith
+
+-- the outcome of a scan by its conditions
+pub scanned-refused : {k : Check} {e : FreqError} (c : Crossing) → k ≡ Refused e → refused (numberOf e) ≡ scanned (refusalOf k) c
+unfolding scanned
+scanned-refused {k} {e} c h = rw h (rw (ne-eqb (numberOf e) 0 (not-zero e)))
+
+pub scanned-passed : {k : Check} (c : Crossing) → k ≡ Passed → crossingOutcome c ≡ scanned (refusalOf k) c
+unfolding scanned
+scanned-passed c h = rw h
+
+-- ---- the two answers of a filler, whose conditions gave n: the answer, and the lent list
+module _ {k : Check} {n : ℕ} (given : refusalOf k ≡ n) (g : ℕ → Float) (count : ℕ) (l : List Float) where
+  pub grid-filled : {m : List Float} → k ≡ Passed → m ≡ filled g l count → (outcomeOfGrid grid.Filled ≡ answered n []) × (m ≡ gridded n g count l)
+  unfolding outcomeOfGrid gridded answered
+  grid-filled h e = let z : n ≡ 0 = sym given ∙ ap refusalOf h in (rw z, rw (z, e))
+
+  pub grid-refused : {e : FreqError} → k ≡ Refused e → (outcomeOfGrid (grid.Refused e) ≡ answered n []) × (l ≡ gridded n g count l)
+  unfolding outcomeOfGrid gridded answered
+  grid-refused {e} h =
+      let is : n ≡ numberOf e = sym given ∙ ap refusalOf h in
+      let no-zero = ne-eqb (numberOf e) 0 (not-zero e) in
+      (rw is (rw no-zero), rw is (rw no-zero))
