@@ -6,7 +6,7 @@ use native.Mathlib.Omega.{arith}
 use borrow.Author.Tests.{ne-eqb}
 use lib.Ieee.{Float}
 use Rattle.laws.specs.Loops.{filled}
-use Rattle.laws.specs.Outcome.{Outcome, refused, answered}
+use Rattle.laws.specs.Outcome.{Outcome, answered}
 use Rattle.laws.proofs.Outcome.{found-values, apart}
 use Rattle.sweep.specs.Refusal.{numberOf, refusalOf}
 use Rattle.sweep.specs.Answer.{outcomeOf, crossingOutcome, scanned, outcomeOfGrid, gridded}
@@ -34,14 +34,17 @@ outcome-known (answer.Refused e) (answer.Refused f) h = ap answer.Refused (numbe
 not-zero : (e : FreqError) → numberOf e ≡ 0 → ⊥
 not-zero e h = let p = number-above e in omega arith
 
--- the outcome of a scan by its conditions
-pub scanned-refused : {k : Check} {e : FreqError} (c : Crossing) → k ≡ Refused e → refused (numberOf e) ≡ scanned (refusalOf k) c
-unfolding scanned
-scanned-refused {k} {e} c h = rw h (rw (ne-eqb (numberOf e) 0 (not-zero e)))
+-- ---- the outcome of a scan whose conditions gave n
+module _ {k : Check} {n : ℕ} (given : refusalOf k ≡ n) (c : Crossing) where
+  pub scan-refused : {e : FreqError} → k ≡ Refused e → outcomeOf (answer.Refused e) ≡ scanned n c
+  unfolding outcomeOf scanned
+  scan-refused {e} h =
+      let is : n ≡ numberOf e = sym given ∙ ap refusalOf h in
+      rw is (rw (ne-eqb (numberOf e) 0 (not-zero e)))
 
-pub scanned-passed : {k : Check} (c : Crossing) → k ≡ Passed → crossingOutcome c ≡ scanned (refusalOf k) c
-unfolding scanned
-scanned-passed c h = rw h
+  pub scan-passed : {o : Outcome} → k ≡ Passed → o ≡ crossingOutcome c → o ≡ scanned n c
+  unfolding scanned
+  scan-passed h e = let z : n ≡ 0 = sym given ∙ ap refusalOf h in rw z e
 
 -- ---- the two answers of a filler, whose conditions gave n: the answer, and the lent list
 module _ {k : Check} {n : ℕ} (given : refusalOf k ≡ n) (g : ℕ → Float) (count : ℕ) (l : List Float) where

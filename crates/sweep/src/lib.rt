@@ -1,8 +1,11 @@
 // What the entries share: the reasons for turning a call away, each with the number that document 01 gives it, and
 // what scans and grids answer.
 ghost use mathlib.Core.Path.{_≡_};
-ghost use Rattle.sweep.specs.Refusal.{numberOf, refusalOf, scanRefusal, gridRefusal};
-ghost use Rattle.sweep.specs.Answer.{outcomeOf, scanned};
+ghost use Prim.Native.Nat.{_+_};
+ghost use lib.Dec.{ltb};
+ghost use Rattle.sweep.specs.Refusal.{numberOf, refusalOf, scanRefusal, listsRefusal, gridRefusal};
+ghost use Rattle.sweep.specs.Answer.{outcomeOf, crossingOutcome};
+ghost use Rattle.sweep.specs.Scan.{orElse, crossesBy, between, firstIndex};
 
 // Why a call is turned away. The first three are the Rust's.
 pub enum FreqError {
@@ -58,6 +61,14 @@ pub fn check_scan(same: bool, n: usize) -> Check
     Check::Passed
 }
 
+// The conditions of three lists.
+pub fn check_lists(a: &[f64], b: &[f64], c: &[f64]) -> Check
+    ensures { λ r. ⌜ refusalOf r ≡ listsRefusal (now (a .entry)) (now (b .entry)) (now (c .entry)) ⌝ }
+{
+    let same = (a.len() == b.len()) & (b.len() == c.len());
+    check_scan(same, a.len())
+}
+
 // The conditions of a grid of n points up to `top` in a list of `room` places; `range` is the refusal of a top
 // that is not above 0.
 pub fn check_grid(range: FreqError, n: usize, top: f64, room: usize) -> Check
@@ -97,15 +108,82 @@ pub enum Answer {
     Refused(FreqError),
 }
 
-// A crossing under the conditions of its lists.
-pub fn answered(check: Check, crossing: Crossing) -> Answer
-    ensures { λ r. ⌜ outcomeOf r ≡ scanned (refusalOf check) crossing ⌝ }
+// What a scan that is not refused answers.
+pub fn found(crossing: Crossing) -> Answer
+    ensures { λ r. ⌜ outcomeOf r ≡ crossingOutcome crossing ⌝ }
 {
-    match check {
-        Check::Refused(e) => Answer::Refused(e),
-        Check::Passed => match crossing {
-            Crossing::At(w) => Answer::Found(w),
-            Crossing::Missing => Answer::Absent,
-        },
+    match crossing {
+        Crossing::At(x) => Answer::Found(x),
+        Crossing::Missing => Answer::Absent,
+    }
+}
+
+// What is sought between the values of two neighbours.
+pub enum Sought {
+    // One is at or above 0, and the other at or below.
+    Zero,
+    // Exactly one lies above the level.
+    Level(f64),
+    // The first is at or above the level, and the second below it.
+    Drop(f64),
+    // The number lies between them, the first being the lower.
+    Enclosing(f64),
+}
+
+// Whether the values a and b of two neighbours have what is sought.
+pub fn crosses(sought: Sought, a: f64, b: f64) -> bool
+    ensures { λ r. ⌜ r ≡ crossesBy sought a b ⌝ }
+{
+    match sought {
+        Sought::Zero => ((a >= 0.0) & (b <= 0.0)) | ((a <= 0.0) & (b >= 0.0)),
+        Sought::Level(level) => (a > level) != (b > level),
+        Sought::Drop(level) => (a >= level) & (b < level),
+        Sought::Enclosing(x) => (a <= x) & (x <= b),
+    }
+}
+
+// The place of the first of two neighbours with what is sought: the last place where there are none.
+pub fn first_index(sought: Sought, values: &[f64]) -> usize
+    ensures { λ r. ⌜ r ≡ firstIndex sought (now (values .entry)) ⌝ }
+{
+    let n = values.len();
+    let mut i: usize = 0;
+    while i + 1 < n {
+        if crosses(sought, values[i], values[i + 1]) {
+            return i;
+        }
+        i += 1;
+    }
+    i
+}
+
+// Whether i and i + 1 are places of a list of n.
+pub fn has_pair(i: usize, n: usize) -> bool
+    ensures { λ r. ⌜ r ≡ ltb (i + 1) n ⌝ }
+{
+    if n < 2 {
+        return false;
+    }
+    i < n - 1
+}
+
+// The frequency at the part rise / span of the way from w0 to w1.
+pub fn interpolate(w0: f64, w1: f64, rise: f64, span: f64) -> f64
+    ensures { λ r. ⌜ r ≡ between w0 w1 rise span ⌝ }
+{
+    if scalar::abs(span) < scalar::EPSILON {
+        return w0;
+    }
+    let t = rise / span;
+    w0 + t * (w1 - w0)
+}
+
+// The first of two crossings.
+pub fn or_else(a: Crossing, b: Crossing) -> Crossing
+    ensures { λ r. ⌜ r ≡ orElse a b ⌝ }
+{
+    match a {
+        Crossing::At(_) => a,
+        Crossing::Missing => b,
     }
 }

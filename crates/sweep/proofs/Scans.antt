@@ -1,0 +1,137 @@
+-- The laws of a scan: one list behind another, what "none" means, and the place of the first pair that crosses. Assumes nothing.
+use Prim.Native.Nat.{ℕ, zero, suc, _+_, _-_, _<_, _≤_}
+use mathlib.Core.Path.{_≡_, refl, sym, _∙_, ap}
+use mathlib.Core.Bool.{Bool, true, false}
+use mathlib.Core.List.{List, [], _∷_, _++_}
+use native.Mathlib.Nat.{add-zero, zero-add, add-suc, suc-add}
+use native.Mathlib.Numerals.{add-one}
+use native.Mathlib.Omega.{arith}
+use borrow.Author.Tests.{lt-ltb, le-ltb}
+use lib.Dec.{ltb}
+use lib.ListN.{length, getD}
+use lib.Ieee.{Float, nan}
+use Rattle.sweep.specs.Scan.{orElse, firstFrom, firstPair, lastOf, crossIf, zip3, at3, firstWhere}
+use Rattle.sweep.proofs.Search.{both-more}
+use Rattle.sweep.specs.declared.Crossing.{Crossing}
+use Rattle.sweep.specs.declared.Crossing.the-variants.{At, Missing}
+
+pub orElse-assoc : (a b c : Crossing) → orElse (orElse a b) c ≡ orElse a (orElse b c)
+orElse-assoc (At w) b c = refl
+orElse-assoc Missing b c = refl
+
+pub orElse-missing : (a : Crossing) → orElse a Missing ≡ a
+orElse-missing (At w) = refl
+orElse-missing Missing = refl
+
+-- ---- one list behind another
+module _ {R : Type 0} where
+  pub last-append : (x : R) (xs ys : List R) → lastOf x (xs ++ ys) ≡ lastOf (lastOf x xs) ys
+  last-append x [] ys = refl
+  last-append x (y ∷ xs) ys = last-append y xs ys
+
+  pub first-append : (p : R → R → Crossing) (x : R) (xs ys : List R) → firstFrom p x (xs ++ ys) ≡ orElse (firstFrom p x xs) (firstFrom p (lastOf x xs) ys)
+  first-append p x [] ys = refl
+  first-append p x (y ∷ xs) ys =
+      ap (orElse (p x y)) (first-append p y xs ys) ∙ sym (orElse-assoc (p x y) (firstFrom p y xs) (firstFrom p (lastOf y xs) ys))
+
+-- ---- "none" exactly where no two neighbours cross
+
+left-missing : (a b : Crossing) → orElse a b ≡ Missing → a ≡ Missing
+left-missing (At w) b h = h
+left-missing Missing b h = refl
+
+right-missing : (a b : Crossing) → orElse a b ≡ Missing → b ≡ Missing
+right-missing (At w) b h = cc
+right-missing Missing b h = h
+
+-- x and y stand next to each other in l
+pub Neighbours : {R : Type 0} → List R → R → R → Type 0
+Neighbours l x y = (before : List _) × (after : List _) × (l ≡ before ++ (x ∷ y ∷ after))
+
+module _ {R : Type 0} (p : R → R → Crossing) where
+  pub missing-crosses-none : (l : List R) → firstPair p l ≡ Missing → (x y : R) → Neighbours l x y → p x y ≡ Missing
+  unfolding Neighbours
+  missing-crosses-none l h x y (before, after, e) = go before (rw e at h)
+    where
+      go : (b : List R) → firstPair p (b ++ (x ∷ y ∷ after)) ≡ Missing → p x y ≡ Missing
+      go [] h = left-missing (p x y) (firstFrom p y after) h
+      go (z ∷ b) h =
+          left-missing (p x y) (firstFrom p y after)
+          (right-missing (p (lastOf z b) x) (orElse (p x y) (firstFrom p y after))
+          (right-missing (firstFrom p z b) (firstFrom p (lastOf z b) (x ∷ y ∷ after)) (rw (first-append p z b (x ∷ y ∷ after)) at h)))
+
+  pub none-crosses-missing : (l : List R) → ((x y : R) → Neighbours l x y → p x y ≡ Missing) → firstPair p l ≡ Missing
+  unfolding Neighbours
+  none-crosses-missing [] h = refl
+  none-crosses-missing (x ∷ []) h = refl
+  none-crosses-missing (x ∷ y ∷ l) h =
+      let e : p x y ≡ Missing = h x y ([], l, refl) in
+      rw e (none-crosses-missing (y ∷ l) (λ v w n. h v w (x ∷ n .0, n .1, ap (λ (k : List R). x ∷ k) (n .2))))
+
+-- ---- the place of the first pair. The answer is what the first pair that crosses says: test k is whether the readings at k and k + 1 cross, and value k where.
+module _ {R : Type 0} (p : R → R → Crossing) (other : R) (test : ℕ → Bool) (value : ℕ → Float) where
+  -- a pair, and what the pairs behind it say
+  one-more : (i n : ℕ) (b : Bool) → test i ≡ b → (here rest : Crossing) → here ≡ crossIf (test i) (value i)
+      → rest ≡ crossIf (ltb (firstWhere test n (suc i)) (suc i + n)) (value (firstWhere test n (suc i)))
+      → orElse here rest ≡ crossIf (ltb (firstWhere test (suc n) i) (i + suc n)) (value (firstWhere test (suc n) i))
+  unfolding firstWhere
+  one-more i n true e here rest h r = rw (h, e) (rw (lt-ltb i (i + suc n) (omega arith)))
+  one-more i n false e here rest h r = rw (h, e) (rw (add-suc i n, ← suc-add i n) r)
+
+  from-place : (i : ℕ) (y : R) (l : List R) → ((k : ℕ) → k < length l → p (getD (y ∷ l) k other) (getD l k other) ≡ crossIf (test (i + k)) (value (i + k)))
+      → firstFrom p y l ≡ crossIf (ltb (firstWhere test (length l) i) (i + length l)) (value (firstWhere test (length l) i))
+  unfolding firstWhere
+  from-place i y [] said = ap (λ (b : Bool). crossIf b (value i)) (sym (le-ltb i (i + 0) (omega arith)))
+  from-place i y (z ∷ l) said =
+      one-more i (length l) (test i) refl (p y z) (firstFrom p z l) (rw (add-zero i) at (said 0 (omega arith)))
+      (from-place (suc i) z l (λ k h. rw (suc-add i k, ← add-suc i k) (said (suc k) (omega arith))))
+
+  pub pair-place : (l : List R) → ((k : ℕ) → k + 1 < length l → p (getD l k other) (getD l (k + 1) other) ≡ crossIf (test k) (value k))
+      → firstPair p l ≡ crossIf (ltb (firstWhere test (length l - 1) 0 + 1) (length l)) (value (firstWhere test (length l - 1) 0))
+  pair-place [] said = ap (λ (b : Bool). crossIf b (value (firstWhere test 0 0))) (sym (le-ltb (firstWhere test 0 0 + 1) 0 (omega arith)))
+  pair-place (x ∷ l) said =
+      let w = firstWhere test (length l) 0 in
+      let n : suc (length l) - 1 ≡ length l = omega arith in
+      let t : ltb w (0 + length l) ≡ ltb (w + 1) (suc (length l)) = rw zero-add (both-more w (length l)) in
+      rw n (from-place 0 x l (λ k h. rw zero-add (rw add-one at (said k (omega arith)))) ∙ ap (λ (b : Bool). crossIf b (value w)) t)
+
+-- ---- the readings of three lists of one length
+module _ {R : Type 0} (f : Float → Float → Float → R) where
+  pub zip3-length : (xs ys zs : List Float) (n : ℕ) → length xs ≡ n → length ys ≡ n → length zs ≡ n → length (zip3 f xs ys zs) ≡ n
+  zip3-length [] ys zs n hx hy hz = hx
+  zip3-length (x ∷ xs) [] zs n hx hy hz = hy
+  zip3-length (x ∷ xs) (y ∷ ys) [] n hx hy hz = hz
+  zip3-length (x ∷ xs) (y ∷ ys) (z ∷ zs) zero hx hy hz = absurd (omega arith)
+  zip3-length (x ∷ xs) (y ∷ ys) (z ∷ zs) (suc n) hx hy hz = ap suc (zip3-length xs ys zs n (omega arith) (omega arith) (omega arith))
+
+  pub zip3-at : (other : R) (xs ys zs : List Float) (k : ℕ) → k < length (zip3 f xs ys zs) → getD (zip3 f xs ys zs) k other ≡ at3 f xs ys zs k
+  zip3-at other [] ys zs k h = absurd (omega arith)
+  zip3-at other (x ∷ xs) [] zs k h = absurd (omega arith)
+  zip3-at other (x ∷ xs) (y ∷ ys) [] k h = absurd (omega arith)
+  zip3-at other (x ∷ xs) (y ∷ ys) (z ∷ zs) zero h = refl
+  zip3-at other (x ∷ xs) (y ∷ ys) (z ∷ zs) (suc k) h = zip3-at other xs ys zs k (omega arith)
+
+  -- the first pair of three lists
+  pub scan3 : (p : R → R → Crossing) (test : ℕ → Bool) (value : ℕ → Float) (xs ys zs : List Float) (n : ℕ) → length xs ≡ n → length ys ≡ n → length zs ≡ n
+      → ((k : ℕ) → p (at3 f xs ys zs k) (at3 f xs ys zs (k + 1)) ≡ crossIf (test k) (value k))
+      → firstPair p (zip3 f xs ys zs) ≡ crossIf (ltb (firstWhere test (n - 1) 0 + 1) n) (value (firstWhere test (n - 1) 0))
+  scan3 p test value xs ys zs n hx hy hz said =
+      let l = zip3 f xs ys zs in
+      let e = zip3-length xs ys zs n hx hy hz in
+      let other = f nan nan nan in
+      rw e at (pair-place p other test value l (λ k h. rw (zip3-at other xs ys zs k (omega arith), zip3-at other xs ys zs (k + 1) h) (said k)))
+
+-- ---- What a program that found the place answers: test k is whether the pair at k has what is sought, value a b what two such neighbours answer.
+module _ {R : Type 0} (f : Float → Float → Float → R) (p : R → R → Crossing) (test : ℕ → Bool) (value : R → R → Float) (xs ys zs : List Float) (n : ℕ)
+    (hx : length xs ≡ n) (hy : length ys ≡ n) (hz : length zs ≡ n)
+    (said : (k : ℕ) → p (at3 f xs ys zs k) (at3 f xs ys zs (k + 1)) ≡ crossIf (test k) (value (at3 f xs ys zs k) (at3 f xs ys zs (k + 1)))) where
+  scan-is : firstPair p (zip3 f xs ys zs)
+      ≡ crossIf (ltb (firstWhere test (n - 1) 0 + 1) n) (value (at3 f xs ys zs (firstWhere test (n - 1) 0)) (at3 f xs ys zs (firstWhere test (n - 1) 0 + 1)))
+  scan-is = scan3 f p test (λ k. value (at3 f xs ys zs k) (at3 f xs ys zs (k + 1))) xs ys zs n hx hy hz said
+
+  pub scan-found : {i : ℕ} {a b : R} {v : Float} → i ≡ firstWhere test (n - 1) 0 → i + 1 < n → a ≡ at3 f xs ys zs i → b ≡ at3 f xs ys zs (i + 1) → v ≡ value a b
+      → At v ≡ firstPair p (zip3 f xs ys zs)
+  scan-found {i} {a} {b} {v} e h ea eb ev = sym (scan-is ∙ (rw (← e) (rw (lt-ltb (i + 1) n h, ev, ea, eb))))
+
+  pub scan-missing : {i : ℕ} → i ≡ firstWhere test (n - 1) 0 → n ≤ i + 1 → Missing ≡ firstPair p (zip3 f xs ys zs)
+  scan-missing {i} e h = sym (scan-is ∙ (rw (← e) (rw (le-ltb (i + 1) n h))))
