@@ -1,9 +1,19 @@
-// The responses of a unity-feedback loop at a frequency: loop gain L, sensitivity S, complementary sensitivity T
-// and control sensitivity Q.
+// The responses of a unity-feedback loop at a frequency, loop gain L, sensitivity S, complementary sensitivity T
+// and control sensitivity Q; and the scans over a sweep of S and T.
 ghost use mathlib.Core.Path.{_≡_};
+ghost use Prim.Native.Nat.{_-_, _<_};
+ghost use lib.ListN.{length};
+ghost use Rattle.sweep.specs.Refusal.{SameLength};
+ghost use Rattle.sweep.specs.Answer as answer;
+ghost use Rattle.sweep.specs.Scan.{firstWhere, at3, zip3, scannedBy};
 ghost use Rattle.transfer_fn.specs.Evaluation.{outcomeOf};
 ghost use Rattle.sensitivity.specs.Responses.{loopGain, onePlus, sensitivity, compSensitivity, controlSensitivity, responseBy};
+ghost use Rattle.sensitivity.specs.Scans.{reading, difference, equalBetween, sensitivityCrossover, equalAt, levelAt, dropBetween, bandwidthOf};
 use complex::Complex;
+use sweep::Answer;
+use sweep::Check;
+use sweep::Crossing;
+use sweep::Sought;
 use transfer_fn::Both;
 use transfer_fn::Response;
 use transfer_fn::TransferFn;
@@ -87,5 +97,122 @@ impl LoopShaping {
             Both::Values(p, c) => Response::Value(control_sensitivity_of(p, c)),
             Both::Refused(e) => Response::Refused(e),
         }
+    }
+}
+
+// One reading of a sweep: the frequency, and S and T in decibels.
+pub struct Reading {
+    pub omega: f64,
+    pub s: f64,
+    pub t: f64,
+}
+
+fn reading_at(omega: &[f64], s: &[f64], t: &[f64], i: usize) -> Reading
+    requires { ⌜ (i < length (now omega)) × (i < length (now s)) × (i < length (now t)) ⌝ }
+    ensures { λ r. ⌜ r ≡ at3 reading (now (omega .entry)) (now (s .entry)) (now (t .entry)) i ⌝ }
+{
+    Reading {
+        omega: omega[i],
+        s: s[i],
+        t: t[i],
+    }
+}
+
+fn difference_of(r: Reading) -> f64
+    ensures { λ d. ⌜ d ≡ difference r ⌝ }
+{
+    r.s - r.t
+}
+
+// Where S and T are equal on the straight lines from a to b.
+fn equal_between(a: Reading, b: Reading) -> f64
+    ensures { λ r. ⌜ r ≡ equalBetween a b ⌝ }
+{
+    let d0 = difference_of(a);
+    let d1 = difference_of(b);
+    sweep::interpolate(a.omega, b.omega, -d0, d1 - d0)
+}
+
+// Where T is at the level on the straight line from a to b.
+fn drop_between(level: f64, a: Reading, b: Reading) -> f64
+    ensures { λ r. ⌜ r ≡ dropBetween level a b ⌝ }
+{
+    let m0 = a.t;
+    let m1 = b.t;
+    sweep::interpolate(a.omega, b.omega, level - m0, m1 - m0)
+}
+
+// The place of the first pair between which S - T crosses 0: the last place where there is none.
+fn first_equal(s: &[f64], t: &[f64]) -> usize
+    requires { ⌜ length (now s) ≡ length (now t) ⌝ }
+    ensures { λ r. ⌜ r ≡ firstWhere (equalAt (now (s .entry)) (now (t .entry))) (length (now (t .entry)) - 1) 0 ⌝ }
+{
+    let n = t.len();
+    let mut i: usize = 0;
+    while i + 1 < n {
+        if sweep::crosses(Sought::Zero, s[i] - t[i], s[i + 1] - t[i + 1]) {
+            return i;
+        }
+        i += 1;
+    }
+    i
+}
+
+// The first crossing of S and T.
+fn equal_crossing(omega: &[f64], s: &[f64], t: &[f64]) -> Crossing
+    requires { ⌜ SameLength (now omega) (now s) (now t) ⌝ }
+    ensures { λ r. ⌜ r ≡ sensitivityCrossover (zip3 reading (now (omega .entry)) (now (s .entry)) (now (t .entry))) ⌝ }
+{
+    let i = first_equal(s, t);
+    if sweep::has_pair(i, t.len()) {
+        let a = reading_at(omega, s, t, i);
+        let b = reading_at(omega, s, t, i + 1);
+        return Crossing::At(equal_between(a, b));
+    }
+    Crossing::Missing
+}
+
+// The list's first T less 3. There is none in an empty list.
+fn level_of(t: &[f64]) -> f64
+    ensures { λ r. ⌜ r ≡ levelAt (now (t .entry)) ⌝ }
+{
+    if t.len() == 0 {
+        return 0.0 / 0.0;
+    }
+    t[0] - 3.0
+}
+
+// The first drop of T by 3 dB.
+fn drop_crossing(omega: &[f64], s: &[f64], t: &[f64]) -> Crossing
+    requires { ⌜ SameLength (now omega) (now s) (now t) ⌝ }
+    ensures { λ r. ⌜ r ≡ bandwidthOf (zip3 reading (now (omega .entry)) (now (s .entry)) (now (t .entry))) ⌝ }
+{
+    let level = level_of(t);
+    let i = sweep::first_index(Sought::Drop(level), t);
+    if sweep::has_pair(i, t.len()) {
+        let a = reading_at(omega, s, t, i);
+        let b = reading_at(omega, s, t, i + 1);
+        return Crossing::At(drop_between(level, a, b));
+    }
+    Crossing::Missing
+}
+
+// The frequency where |S| and |T| are first equal.
+pub fn sensitivity_crossover(omega: &[f64], s: &[f64], t: &[f64]) -> Answer
+    ensures { λ r. ⌜ answer.outcomeOf r ≡ scannedBy reading sensitivityCrossover (now (omega .entry)) (now (s .entry)) (now (t .entry)) ⌝ }
+{
+    match sweep::check_lists(omega, s, t) {
+        Check::Refused(e) => Answer::Refused(e),
+        Check::Passed => sweep::found(equal_crossing(omega, s, t)),
+    }
+}
+
+// The -3 dB bandwidth of T: the frequency where it first drops 3 dB below the list's first T.
+pub fn bandwidth(omega: &[f64], s: &[f64], t: &[f64]) -> Answer
+    ensures { λ r. ⌜ answer.outcomeOf r ≡ scannedBy reading bandwidthOf (now (omega .entry)) (now (s .entry)) (now (t .entry)) ⌝ }
+{
+    match sweep::check_lists(omega, s, t) {
+        Check::Refused(e) => Answer::Refused(e),
+        Check::Passed => sweep::found(drop_crossing(omega, s, t)),
     }
 }

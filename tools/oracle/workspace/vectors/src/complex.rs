@@ -1,14 +1,12 @@
 //! Vectors for absolute value, square root and `Complex`.
 
+use crate::numbers::{NONE, VALUE};
 use crate::random::{beside, nans, power_of_two, specials, with_neighbours, Random, EPS, ROOT_EPS};
-use crate::words::{Words, VALUE};
+use crate::words::Words;
 use num_traits::Float;
 use oxictl::core::frequency_domain::Complex;
 use oxictl::core::scalar::ControlScalar;
 use Question::*;
-
-/// The number of an answer that is none.
-const NONE: u64 = 100;
 
 /// x.re, x.im, y.re, y.im.
 type Arguments = [f64; 4];

@@ -1,8 +1,14 @@
 //! Makes the test vectors by asking the Rust. `vectors FOLDER` writes FOLDER/NAME/stdin for each
 //! file and prints how many cases of each kind it holds. README.md gives the formats.
 
+mod coefficients;
 mod complex;
+mod constant;
+mod grids;
+mod locus;
+mod numbers;
 mod random;
+mod scans;
 mod sensitivity;
 mod words;
 
@@ -14,6 +20,9 @@ fn main() -> io::Result<()> {
     let files = [
         ("replay_complex", complex::vectors()),
         ("replay_sensitivity", sensitivity::vectors()),
+        ("replay_scans", scans::vectors()),
+        ("replay_grids", grids::vectors()),
+        ("replay_locus", locus::vectors()),
     ];
     for (name, words) in files {
         let folder = Path::new(&folder).join(name);

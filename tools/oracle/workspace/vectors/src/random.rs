@@ -21,6 +21,20 @@ pub fn with_neighbours(value: f64) -> [f64; 3] {
     [bits - 1, bits, bits + 1].map(f64::from_bits)
 }
 
+/// The next number below one that is not a NaN or -infinity.
+pub fn next_below(value: f64) -> f64 {
+    if value > 0.0 {
+        f64::from_bits(value.to_bits() - 1)
+    } else {
+        -f64::from_bits(value.abs().to_bits() + 1)
+    }
+}
+
+/// The next number above one that is not a NaN or infinity.
+pub fn next_above(value: f64) -> f64 {
+    -next_below(-value)
+}
+
 /// The imaginary part beside `re` for which the squared magnitude is `square`, but for rounding.
 pub fn beside(re: f64, square: f64) -> f64 {
     (square - re * re).sqrt()

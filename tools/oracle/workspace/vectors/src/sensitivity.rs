@@ -1,61 +1,20 @@
 //! Vectors for the evaluation of a transfer function and the four loop responses.
 
+use crate::coefficients::{mixed, moderate, special, stable, uniform_bits, Coefficients, Kind};
+use crate::constant::at_constant;
+use crate::numbers::{LENGTHS_DIFFER, MAX_ORDER, ORDER, TOO_FEW_PAIRS, VALUE};
 use crate::random::{beside, power_of_two, with_neighbours, Random, EPS, ROOT_EPS};
-use crate::words::{expected_bits, Words, VALUE};
+use crate::words::{expected_bits, Words};
 use num_traits::Float;
 use oxictl::core::frequency_domain::LoopShaping;
-use oxictl::core::transfer_fn::TransferFn;
 use oxictl_inner::core::frequency_domain::{bode, nyquist, sensitivity};
-use std::array;
 use std::f64::consts::{FRAC_PI_2, PI};
 
-/// Document 01's refusals. The Rust has none of them.
-const LENGTHS_DIFFER: u64 = 11;
-const TOO_FEW_PAIRS: u64 = 13;
-const ORDER_TOO_LARGE: u64 = 16;
-
-const MAX_ORDER: u64 = 8;
 /// No case has longer lists than this.
 const MAX_PAIRS: usize = 12;
 
 /// A value, or the number of a refusal.
 type Answer = Result<[f64; 2], u64>;
-
-/// How to make the two coefficients b[k] and a[k].
-type Kind = fn(&mut Random) -> [f64; 2];
-
-/// A transfer function as the port takes it, its order being any number.
-struct Coefficients {
-    order: u64,
-    b: [f64; 8],
-    a: [f64; 8],
-}
-
-impl Coefficients {
-    /// From pairs of b[k] and a[k], with junk past them.
-    fn new(random: &mut Random, pairs: &[[f64; 2]]) -> Self {
-        let mut b = [(); 8].map(|_| random.junk());
-        let mut a = [(); 8].map(|_| random.junk());
-        for (k, &[b_k, a_k]) in pairs.iter().enumerate() {
-            b[k] = b_k;
-            a[k] = a_k;
-        }
-        let order = pairs.len() as u64;
-        Self { order, b, a }
-    }
-
-    fn random(random: &mut Random, order: u64, kind: Kind) -> Self {
-        let pairs: Vec<_> = (0..order.min(MAX_ORDER)).map(|_| kind(random)).collect();
-        Self {
-            order,
-            ..Self::new(random, &pairs)
-        }
-    }
-
-    fn transfer_fn<const N: usize>(&self) -> TransferFn<f64, N> {
-        TransferFn::new(array::from_fn(|k| self.b[k]), array::from_fn(|k| self.a[k]))
-    }
-}
 
 /// What is asked; `lengths` are those of the lists of cosines and sines.
 struct Case {
@@ -135,7 +94,7 @@ fn needed(plant: &Coefficients, controller: &Coefficients) -> usize {
 /// Document 01's conditions, in its order.
 fn refusal(largest_order: u64, [cosines, sines]: [usize; 2]) -> Option<u64> {
     if largest_order > MAX_ORDER {
-        Some(ORDER_TOO_LARGE)
+        Some(ORDER)
     } else if cosines != sines {
         Some(LENGTHS_DIFFER)
     } else if (cosines as u64) < largest_order + 1 {
@@ -148,16 +107,7 @@ fn refusal(largest_order: u64, [cosines, sines]: [usize; 2]) -> Option<u64> {
 /// Gives `$answer` for the order at hand, which it sees as the constant `$n`.
 macro_rules! at_order {
     ($order:expr, $n:ident => $answer:expr) => {
-        at_order!($order, $n => $answer, 0 1 2 3 4 5 6 7 8)
-    };
-    ($order:expr, $n:ident => $answer:expr, $($value:literal)*) => {
-        match $order {
-            $($value => {
-                const $n: usize = $value;
-                $answer
-            })*
-            order => unreachable!("order {order} is refused"),
-        }
+        at_constant!($order, $n in 0 1 2 3 4 5 6 7 8 => $answer, else unreachable!("refused"))
     };
 }
 
@@ -217,31 +167,6 @@ fn ample(random: &mut Random, plant: Coefficients, controller: Coefficients, ome
         omega,
         lengths: [needed + spare; 2],
     }
-}
-
-/// Coefficients of a stable function: the absolute values of all a[k] sum to at most 1.
-fn stable(random: &mut Random) -> [f64; 2] {
-    [random.between(-2.0, 2.0), random.between(-0.125, 0.125)]
-}
-
-fn moderate(random: &mut Random) -> [f64; 2] {
-    [(); 2].map(|_| random.between(-2.0, 2.0))
-}
-
-/// Mostly moderate, now and then special.
-fn mixed(random: &mut Random) -> [f64; 2] {
-    [(); 2].map(|_| match random.below(8) {
-        0 => random.special(),
-        _ => random.between(-2.0, 2.0),
-    })
-}
-
-fn special(random: &mut Random) -> [f64; 2] {
-    [(); 2].map(|_| random.special())
-}
-
-fn uniform_bits(random: &mut Random) -> [f64; 2] {
-    [(); 2].map(|_| random.uniform_bits())
 }
 
 /// Every pair of orders with every kind of coefficients.

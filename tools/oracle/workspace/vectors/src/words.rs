@@ -1,8 +1,5 @@
 //! A vector file: 64-bit words, little-endian.
 
-/// The number of an answer that is a value.
-pub const VALUE: u64 = 0;
-
 /// Every NaN that is expected is written as this one.
 const NAN: u64 = 0x7FF8_0000_0000_0000;
 

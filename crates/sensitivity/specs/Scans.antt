@@ -1,0 +1,59 @@
+-- The scans over a sweep of S and T in dB. Definitions only.
+use Prim.Native.Nat.{ℕ, _+_}
+use mathlib.Core.Bool.{Bool}
+use mathlib.Core.List.{List, [], _∷_}
+use lib.ListN.{getD}
+use lib.Ieee.{Float, nan, binary64, sub, neg, ofBits}
+use Rattle.sweep.specs.Scan.{firstPair, crossIf, crossesBy, between}
+use Rattle.sweep.specs.declared.Crossing.{Crossing}
+use Rattle.sweep.specs.declared.Sought.the-variants.{Zero, Drop}
+use Rattle.sensitivity.specs.declared.Reading.{Reading}
+
+abbrev pub reading : Float → Float → Float → Reading
+reading omega s t = record { omega = omega; s = s; t = t }
+
+-- ---- the crossover of S and T: their difference is ≥ 0 at one of two neighbours and ≤ 0 at the other
+
+-- S - T
+unfoldable pub difference : Reading → Float
+difference r = sub binary64 (r .s) (r .t)
+
+-- where the difference is 0 on the straight line from a to b
+unfoldable pub equalBetween : Reading → Reading → Float
+equalBetween a b = between (a .omega) (b .omega) (neg (difference a)) (sub binary64 (difference b) (difference a))
+
+unfoldable pub equalPair : Reading → Reading → Crossing
+equalPair a b = crossIf (crossesBy Zero (difference a) (difference b)) (equalBetween a b)
+
+unfoldable pub sensitivityCrossover : List Reading → Crossing
+sensitivityCrossover l = firstPair equalPair l
+
+-- ---- bandwidth: T is at or above a level at one reading and below it at the next, the level being the list's first T less 3
+
+abbrev pub f3 : Float
+f3 = ofBits binary64 0x4008_0000_0000_0000
+
+-- a list without readings has no level
+unfoldable pub levelOf : List Reading → Float
+levelOf [] = nan
+levelOf (r ∷ l) = sub binary64 (r .t) f3
+
+-- where T is at the level on the straight line from a to b
+unfoldable pub dropBetween : Float → Reading → Reading → Float
+dropBetween level a b = between (a .omega) (b .omega) (sub binary64 level (a .t)) (sub binary64 (b .t) (a .t))
+
+unfoldable pub dropPair : Float → Reading → Reading → Crossing
+dropPair level a b = crossIf (crossesBy (Drop level) (a .t) (b .t)) (dropBetween level a b)
+
+unfoldable pub bandwidthOf : List Reading → Crossing
+bandwidthOf l = firstPair (dropPair (levelOf l)) l
+
+-- ---- on lists of numbers: whether S - T crosses 0 between places k and k + 1, and the first T less 3
+
+abbrev pub equalAt : List Float → List Float → ℕ → Bool
+equalAt s t k =
+    crossesBy Zero (sub binary64 (getD s k nan) (getD t k nan)) (sub binary64 (getD s (k + 1) nan) (getD t (k + 1) nan))
+
+abbrev pub levelAt : List Float → Float
+levelAt [] = nan
+levelAt (x ∷ l) = sub binary64 x f3

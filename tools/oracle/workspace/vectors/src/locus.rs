@@ -1,0 +1,692 @@
+//! Vectors for the locus point and `stability_region`.
+
+use crate::coefficients::{mixed, moderate, special, stable, uniform_bits, Coefficients, Kind};
+use crate::constant::at_constant;
+use crate::numbers::{
+    assert_refused_alike, own_refusal, CUBIC, INSUFFICIENT_POINTS, INVALID_PARAMETER, MAX_ORDER,
+    MAX_POINTS, NO_SUCH_POINT, ORDER, TOO_MANY, VALUE,
+};
+use crate::random::{beside, power_of_two, specials, with_neighbours, Random, EPS};
+use crate::words::{expected_bits, Words};
+use heapless::Vec as HVec;
+use oxictl::core::frequency_domain::{compute_root_locus, stability_region, Complex};
+use oxictl_inner::core::frequency_domain::root_locus::call_compute_closed_loop_poles;
+
+/// The words that a case of each kind starts with.
+const POINT: u64 = 1;
+const REGION: u64 = 2;
+
+/// A gain and its poles, or the number of a refusal.
+type Answer = Result<(f64, Vec<[f64; 2]>), u64>;
+
+/// What is asked of the locus: its point `i` of `n`.
+struct Point {
+    k_max: f64,
+    function: Coefficients,
+    n: u64,
+    i: u64,
+}
+
+impl Point {
+    /// A point at gain 1, where the loop has this polynomial, from the leading coefficient on. The
+    /// leading one is 1 + b[0], and so it may be rounded.
+    fn of_polynomial(random: &mut Random, polynomial: &[f64]) -> Self {
+        // To add -0 changes nothing.
+        let mut pairs: Vec<_> = polynomial[1..].iter().map(|&c| [-0.0, c]).collect();
+        let lead = polynomial[0];
+        pairs[0][0] = if lead.is_nan() { lead } else { lead - 1.0 };
+        let (k_max, n, i) = random.pick(&[
+            (1.0, 2, 1),
+            (2.0, 3, 1),
+            (1.0, 33, 32),
+            (4095.0, 4096, 1),
+            (1.0, 4096, 4095),
+        ]);
+        Self {
+            k_max,
+            function: Coefficients::new(random, &pairs),
+            n,
+            i,
+        }
+    }
+
+    /// As `compute_root_locus` has it.
+    fn gain(&self) -> f64 {
+        self.k_max * self.i as f64 / (self.n - 1) as f64
+    }
+
+    /// How many coefficients are left of the loop's polynomial without the leading ones that do
+    /// not count.
+    fn coefficients_left(&self) -> usize {
+        let gain = self.gain();
+        let order = self.function.order as usize;
+        let Coefficients { b, a, .. } = &self.function;
+        let mut polynomial = vec![1.0 + gain * b[0]];
+        polynomial.extend((1..order).map(|i| a[i - 1] + gain * b[i]));
+        polynomial.push(a[order - 1]);
+        polynomial.iter().skip_while(|c| c.abs() < EPS).count()
+    }
+
+    /// Document 01's conditions, in its order.
+    fn refusal(&self) -> Option<u64> {
+        if self.n < 2 {
+            Some(INSUFFICIENT_POINTS)
+        } else if self.k_max <= 0.0 || self.function.order > MAX_ORDER {
+            Some(INVALID_PARAMETER)
+        } else if self.function.order == 0 {
+            Some(ORDER)
+        } else if self.n > MAX_POINTS {
+            Some(TOO_MANY)
+        } else if self.i >= self.n {
+            Some(NO_SUCH_POINT)
+        } else if self.coefficients_left() == 4 {
+            Some(CUBIC)
+        } else {
+            None
+        }
+    }
+
+    fn answer(&self) -> Answer {
+        let refusal = self.refusal();
+        let answer = match refusal {
+            Some(number) => Err(number),
+            None => Ok((
+                self.gain(),
+                at_constant!(self.function.order, N in 1 2 3 4 5 6 7 8
+                    => self.poles::<N>(), else unreachable!("refused")),
+            )),
+        };
+        if let Some(asked) = self.asked() {
+            assert_refused_alike(&asked, refusal);
+            if refusal.is_none() {
+                assert_eq!(written(&asked), written(&answer));
+            }
+        }
+        answer
+    }
+
+    fn poles<const N: usize>(&self) -> Vec<[f64; 2]> {
+        let tf = self.function.transfer_fn::<N>();
+        let poles = call_compute_closed_loop_poles(&tf, self.gain());
+        assert_eq!(poles.len(), self.coefficients_left().saturating_sub(1));
+        poles.iter().map(|pole| [pole.re, pole.im]).collect()
+    }
+
+    /// What stands in the locus that the Rust computes as a whole, for some numbers of points; the
+    /// last point where there is no point `i`.
+    fn asked(&self) -> Option<Answer> {
+        at_constant!(self.function.order, N in 1 2 3 4 5 6 7 8 9 =>
+            at_constant!(self.n, POINTS in 0 1 2 3 5 9 17 33 =>
+                Some(self.locus::<N, POINTS>()), else None), else None)
+    }
+
+    fn locus<const N: usize, const POINTS: usize>(&self) -> Answer {
+        let tf = self.function.transfer_fn::<N>();
+        let locus = compute_root_locus::<_, N, POINTS>(&tf, self.k_max).map_err(own_refusal)?;
+        let point = &locus.points[self.i.min(self.n - 1) as usize];
+        let poles = point.poles.iter().map(|pole| [pole.re, pole.im]);
+        Ok((point.gain, poles.collect()))
+    }
+}
+
+/// What is asked of `stability_region`; a count above 8 is read as 8.
+struct Region {
+    count: u64,
+    poles: [[f64; 2]; 8],
+}
+
+impl Region {
+    /// From the poles that count, with junk past them.
+    fn new(random: &mut Random, counted: &[[f64; 2]]) -> Self {
+        let mut poles = [(); 8].map(|_| [random.junk(), random.junk()]);
+        poles[..counted.len()].copy_from_slice(counted);
+        let count = counted.len() as u64;
+        Self { count, poles }
+    }
+
+    fn answer(&self) -> bool {
+        let mut poles = HVec::new();
+        for &[re, im] in &self.poles[..self.count.min(8) as usize] {
+            let pushed = poles.push(Complex::new(re, im));
+            pushed.expect("there are at most 8");
+        }
+        stability_region(&poles)
+    }
+}
+
+pub fn vectors() -> Words {
+    let random = &mut Random::new(5);
+    let mut points = worked(random);
+    points.extend(random_points(random));
+    points.extend(gains(random));
+    points.extend(loci(random));
+    points.extend(dropped(random));
+    for polynomial in low_degrees(random).iter().chain(&high_degrees(random)) {
+        points.push(Point::of_polynomial(random, polynomial));
+    }
+    points.extend(refused(random));
+
+    let mut words = Words::default();
+    for point in &points {
+        write_point(&mut words, point);
+    }
+    for region in regions(random) {
+        write_region(&mut words, &region);
+    }
+    words
+}
+
+fn write_point(words: &mut Words, point: &Point) {
+    words.word(POINT);
+    words.arguments(&[point.k_max]);
+    words.word(point.function.order);
+    words.word(point.n);
+    words.word(point.i);
+    words.arguments(&point.function.b);
+    words.arguments(&point.function.a);
+    let answer = point.answer();
+    for word in written(&answer) {
+        words.word(word);
+    }
+    words.count(match answer {
+        Ok((_, poles)) => format!("point {VALUE}, {} poles", poles.len()),
+        Err(number) => format!("point {number}"),
+    });
+}
+
+fn write_region(words: &mut Words, region: &Region) {
+    words.word(REGION);
+    words.word(region.count);
+    words.arguments(&region.poles.concat());
+    let stable = region.answer();
+    words.word(u64::from(stable));
+    words.count(format!("region {}", u64::from(stable)));
+}
+
+/// The words of an answer: its number, the gain, the count of poles, places for eight of them.
+fn written(answer: &Answer) -> [u64; 19] {
+    let mut words = [0; 19];
+    match answer {
+        Ok((gain, poles)) => {
+            words[0] = VALUE;
+            words[1] = expected_bits(*gain);
+            words[2] = poles.len() as u64;
+            for (word, &part) in words[3..].iter_mut().zip(poles.iter().flatten()) {
+                *word = expected_bits(part);
+            }
+        }
+        Err(number) => words[0] = *number,
+    }
+    words
+}
+
+/// Document 01's worked cases: a gain is point 1 of 2, gain 0 is point 0.
+fn worked(random: &mut Random) -> Vec<Point> {
+    let cases: [(&[[f64; 2]], f64, u64); 4] = [
+        (&[[0.5, -0.5]], 2.0, 1),
+        (&[[0.0, -1.0], [1.0, 0.25]], 1.0, 0),
+        (&[[0.0, -1.0], [1.0, 0.25]], 0.5, 1),
+        (&[[-1.0, 0.5]], 1.0, 1),
+    ];
+    let point = |(pairs, k_max, i): (&[[f64; 2]], f64, u64)| Point {
+        k_max,
+        function: Coefficients::new(random, pairs),
+        n: 2,
+        i,
+    };
+    cases.map(point).into_iter().collect()
+}
+
+/// A number of points and one of them, often the first or the last.
+fn place(random: &mut Random) -> (u64, u64) {
+    let any = 2 + random.below(MAX_POINTS - 1);
+    let n = random.pick(&[2, 3, 5, 9, 17, 33, any, any, MAX_POINTS]);
+    let any = random.below(n);
+    (n, random.pick(&[0, n - 1, any, any, any]))
+}
+
+/// Every order with every kind of coefficients, above all those that need the search.
+fn random_points(random: &mut Random) -> Vec<Point> {
+    const KINDS: [Kind; 9] = [
+        stable,
+        stable,
+        stable,
+        moderate,
+        moderate,
+        moderate,
+        mixed,
+        special,
+        uniform_bits,
+    ];
+    let mut points = Vec::new();
+    for order in 1..=MAX_ORDER {
+        let count = match order {
+            1 => 15,
+            2 => 20,
+            3 => 5,
+            _ => 30,
+        };
+        for kind in KINDS {
+            for _ in 0..count {
+                let [near_one, any] = [
+                    random.between(0.0, 10.0),
+                    random.with_exponent(-40, 40).abs(),
+                ];
+                let k_max = random.pick(&[near_one, near_one, any]);
+                let function = Coefficients::random(random, order, kind);
+                let (n, i) = place(random);
+                points.push(Point {
+                    k_max,
+                    function,
+                    n,
+                    i,
+                });
+            }
+        }
+    }
+    points
+}
+
+/// Largest gains of every class that passes, at the first points, in the middle and at the end.
+fn gains(random: &mut Random) -> Vec<Point> {
+    let list = [
+        f64::from_bits(1),
+        random.subnormal().abs(),
+        f64::MIN_POSITIVE,
+        1e-300,
+        EPS,
+        1e20,
+        1e300,
+        power_of_two(1013),
+        f64::MAX,
+        f64::INFINITY,
+        random.nan(),
+    ];
+    let mut points = Vec::new();
+    for k_max in list {
+        for (n, i) in [
+            (2, 0),
+            (2, 1),
+            (3, 1),
+            (3, 2),
+            (4096, 1),
+            (4096, 2048),
+            (4096, 4095),
+        ] {
+            for order in [1, 2, 4, 5, 6, 8] {
+                let function = Coefficients::random(random, order, stable);
+                points.push(Point {
+                    k_max,
+                    function,
+                    n,
+                    i,
+                });
+            }
+        }
+    }
+    points
+}
+
+/// Loci from end to end.
+fn loci(random: &mut Random) -> Vec<Point> {
+    let mut points = Vec::new();
+    for order in [1, 2, 4, 5, 6, 7, 8] {
+        let function = Coefficients::random(random, order, moderate);
+        for i in 0..17 {
+            points.push(Point {
+                k_max: 4.0,
+                function: function.clone(),
+                n: 17,
+                i,
+            });
+        }
+    }
+    points
+}
+
+/// Every order with every number of leading coefficients that do not count, up to all of them;
+/// the first that counts is often only just large enough.
+fn dropped(random: &mut Random) -> Vec<Point> {
+    let just_below = with_neighbours(EPS)[0];
+    let just_above = with_neighbours(EPS)[2];
+    let mut points = Vec::new();
+    for order in 1..=MAX_ORDER as usize {
+        for dropped in 0..=order + 1 {
+            for _ in 0..12 {
+                let mut polynomial: Vec<_> =
+                    (0..=order).map(|_| random.between(-2.0, 2.0)).collect();
+                for (place, c) in polynomial.iter_mut().take(dropped).enumerate() {
+                    // The first is 1 + b[0], of which 2^-53 is a divisor.
+                    *c = if place == 0 {
+                        random.pick(&[0.0, EPS / 2.0])
+                    } else {
+                        let any = random.between(-EPS, EPS);
+                        let tiny = random.subnormal();
+                        random.pick(&[0.0, -0.0, just_below, -just_below, any, tiny])
+                    };
+                }
+                if let Some(c) = polynomial.get_mut(dropped) {
+                    let any = *c;
+                    *c = if dropped == 0 {
+                        random.pick(&[EPS, -EPS, any, any])
+                    } else {
+                        random.pick(&[EPS, -EPS, just_above, -just_above, any, any])
+                    };
+                }
+                points.push(Point::of_polynomial(random, &polynomial));
+            }
+        }
+    }
+    // The terms cancel at this gain.
+    for order in 1..=MAX_ORDER {
+        for cancelled in 1..=order as usize {
+            let mut function = Coefficients::random(random, order, moderate);
+            function.b[0] = -0.5;
+            for k in 1..cancelled {
+                function.a[k - 1] = -2.0 * function.b[k];
+            }
+            points.push(Point {
+                k_max: 4.0,
+                function,
+                n: 3,
+                i: 1,
+            });
+        }
+    }
+    points
+}
+
+/// Polynomials of degree 1 and 2 with coefficients of every class, and with discriminants that are
+/// 0, barely not 0, overflow or are a NaN.
+fn low_degrees(random: &mut Random) -> Vec<Vec<f64>> {
+    let leads = [1.0, -1.5, 0.5, EPS, -EPS, power_of_two(512), f64::MAX];
+    let mut list = vec![
+        vec![0.5, 1.0, random.nan()],
+        vec![0.5, random.nan(), 1.0],
+        vec![random.nan(), 1.0, 1.0],
+        vec![f64::INFINITY, 1.0, 1.0],
+        vec![1.0, f64::MAX, f64::MAX],
+        vec![f64::MAX, f64::MAX, f64::MAX],
+    ];
+    for c1 in specials() {
+        for lead in [1.0, EPS, -power_of_two(512)] {
+            list.push(vec![lead, c1]);
+        }
+        for c2 in specials() {
+            list.push(vec![random.pick(&leads), c1, c2]);
+        }
+    }
+    for _ in 0..60 {
+        // Twice the same root, exact in every place; then with one coefficient's neighbour.
+        let lead = random.pick(&[1.0, 0.5, -2.0, 3.0]);
+        let root = (random.below(2001) as f64 - 1000.0) / 64.0;
+        let [c1, c2] = [-2.0 * lead * root, lead * root * root];
+        list.push(vec![lead, c1, c2]);
+        if c1 != 0.0 {
+            list.push(vec![lead, f64::from_bits(c1.to_bits() + 1), c2]);
+            list.push(vec![lead, c1, f64::from_bits(c2.to_bits() + 1)]);
+        }
+    }
+    for _ in 0..40 {
+        // The order of the factors in 4·c0·c2 decides whether it overflows or vanishes.
+        let lead = random.with_exponent(520, 1020);
+        let c2 = random.with_exponent(-1020, 500);
+        let c1 = random.with_exponent(-500, 520);
+        list.push(vec![lead, c1, c2]);
+    }
+    list
+}
+
+/// The product of two polynomials.
+fn product(first: &[f64], second: &[f64]) -> Vec<f64> {
+    let mut list = vec![0.0; first.len() + second.len() - 1];
+    for (i, x) in first.iter().enumerate() {
+        for (k, y) in second.iter().enumerate() {
+            list[i + k] += x * y;
+        }
+    }
+    list
+}
+
+/// The polynomial with these roots, up to rounding.
+fn with_roots(roots: &[f64]) -> Vec<f64> {
+    roots.iter().fold(vec![1.0], |polynomial, root| {
+        product(&polynomial, &[1.0, -root])
+    })
+}
+
+/// The leading 1 and then `degree` coefficients.
+fn monic(degree: usize, mut coefficient: impl FnMut() -> f64) -> Vec<f64> {
+    let mut list = vec![1.0];
+    list.extend((0..degree).map(|_| coefficient()));
+    list
+}
+
+/// Found by a search of our own: in the first round, the divisor of the third root has squared
+/// magnitude `EPS`, the next below or the next above.
+fn just_skipped() -> Vec<Vec<f64>> {
+    #[rustfmt::skip]
+    let [at, below, above] = [
+        [
+            [-1.0666557091382192, -0.06014907863457353, 0.35649405879068574, 7.770310716879212],
+            [0.5371581767068232, -1.7510087135252501, -1.7306094505918885, 9.944459977366439],
+        ],
+        [
+            [0.5371581767068392, -1.7510087135252501, -1.7306094505919045, 9.944459977366439],
+            [1.6012332627208803, 1.3617421091171593, -0.08210620613827047, 4.119130813476495],
+        ],
+        [
+            [-1.0666557091382227, -0.06014907863457353, 0.3564940587906893, 7.770310716879212],
+            [1.1198779457775814, 1.4980527365379057, 1.1914925018329736, 3.190576794330939],
+        ],
+    ];
+    let polynomials = [at, below, above].concat();
+    let with_lead = |coefficients: &[f64; 4]| [&[1.0], &coefficients[..]].concat();
+    polynomials.iter().map(with_lead).collect()
+}
+
+/// Polynomials for the search. Some need all its rounds, some overflow or hold NaNs.
+fn high_degrees(random: &mut Random) -> Vec<Vec<f64>> {
+    let mut list = just_skipped();
+    for degree in 4..=MAX_ORDER as usize {
+        // The same root throughout, and roots close to each other.
+        for root in [0.0, 1.0, -1.0, 0.5, 2.0, -0.9, 0.001, 100.0] {
+            list.push(with_roots(&vec![root; degree]));
+        }
+        for distance in [0.1, 1e-3, 1e-6, 1e-9] {
+            let roots: Vec<_> = (0..degree).map(|i| 0.5 + distance * i as f64).collect();
+            list.push(with_roots(&roots));
+        }
+        // Roots far apart.
+        for base in [0.25, 1.5, 10.0, 1000.0] {
+            let mut root = 0.125;
+            let roots: Vec<f64> = (0..degree)
+                .map(|_| {
+                    root *= -base;
+                    root
+                })
+                .collect();
+            list.push(with_roots(&roots));
+        }
+        // Roots on a circle; with -1 they are the points where the search starts.
+        for constant in [
+            -1.0,
+            1.0,
+            -0.5,
+            16.0,
+            1e-20,
+            -1e20,
+            1e300,
+            f64::from_bits(1),
+        ] {
+            let mut polynomial = monic(degree, || 0.0);
+            polynomial[degree] = constant;
+            list.push(polynomial);
+        }
+        list.push(monic(degree, || 1.0));
+        // One of those points is a root, if only all but exactly.
+        for factor in [[1.0, -1.0], [1.0, 1.0]] {
+            for _ in 0..4 {
+                let rest = monic(degree - 1, || random.between(-2.0, 2.0));
+                list.push(product(&rest, &factor));
+            }
+        }
+        // At the first of those points, (1, 0), the value is 0. At others it overflows to a NaN,
+        // which does not keep the search from ending.
+        for place in 2..degree {
+            let mut polynomial = monic(degree, || 0.0);
+            polynomial[1] = -1.0;
+            polynomial[place] = 1.7e308;
+            polynomial[place + 1] = -1.7e308;
+            list.push(polynomial);
+        }
+        // There the value is the last coefficient, and the largest change 1e-12 or next to it.
+        for step in 0..9 {
+            let mut polynomial = monic(degree, || 0.0);
+            polynomial[1..4].copy_from_slice(&[-1.0, 1.7e308, -1.7e308]);
+            let constant = degree as f64 * 1e-12;
+            polynomial[degree] = f64::from_bits(constant.to_bits() - 4 + step);
+            list.push(polynomial);
+        }
+        // One root is huge.
+        for size in [1e4, 1e6, 8e8, -8e8, 1e12, 1e15, 1e40, 1e100, 1e160, 1e300] {
+            let mut polynomial = monic(degree, || random.between(-2.0, 2.0));
+            polynomial[1] = size;
+            list.push(polynomial);
+        }
+        // One coefficient, or each, is what leads to overflow or NaN.
+        for place in 1..=degree {
+            for value in [f64::INFINITY, f64::NEG_INFINITY, -f64::MAX, random.nan()] {
+                let mut polynomial = monic(degree, || random.between(-2.0, 2.0));
+                polynomial[place] = value;
+                list.push(polynomial);
+            }
+        }
+        for _ in 0..8 {
+            list.push(monic(degree, || random.with_exponent(900, 1023)));
+            list.push(monic(degree, || random.with_exponent(0, 60)));
+            list.push(monic(degree, || random.with_exponent(-60, 0)));
+            list.push(monic(degree, || random.subnormal()));
+            list.push(monic(degree, || random.special()));
+        }
+        // Palindromes of both signs.
+        for _ in 0..10 {
+            let sign = random.pick(&[1.0, -1.0]);
+            let mut polynomial = monic(degree, || random.between(-3.0, 3.0));
+            for k in 0..=degree / 2 {
+                polynomial[degree - k] = sign * polynomial[k];
+            }
+            list.push(polynomial);
+        }
+        // Small whole numbers, leading ones among them.
+        for _ in 0..40 {
+            let mut polynomial = monic(degree, || random.below(7) as f64 - 3.0);
+            polynomial[0] = random.pick(&[1.0, 1.0, -1.0, 2.0, 3.0, 0.5]);
+            list.push(polynomial);
+        }
+        // Pairs inside the circle, on it and outside.
+        for _ in 0..12 {
+            let mut polynomial = vec![1.0];
+            for _ in 0..degree / 2 {
+                let re = random.between(-1.2, 1.2);
+                let im = random.between(-1.2, 1.2);
+                polynomial = product(&polynomial, &[1.0, -2.0 * re, re * re + im * im]);
+            }
+            if degree % 2 == 1 {
+                polynomial = product(&polynomial, &[1.0, random.between(-1.2, 1.2)]);
+            }
+            list.push(polynomial);
+        }
+    }
+    list
+}
+
+/// Every refusal at its limit and past it, alone and with the others.
+fn refused(random: &mut Random) -> Vec<Point> {
+    let mut points = Vec::new();
+    for n in [0, 1, 2, MAX_POINTS, MAX_POINTS + 1, u64::MAX] {
+        for order in [0, 1, 3, 8, 9, 1 << 32, u64::MAX] {
+            for i in [0, n.saturating_sub(1), n, u64::MAX] {
+                let negative = random.pick(&[0.0, -0.0, -f64::from_bits(1), -1.0, -f64::INFINITY]);
+                let positive = random.pick(&[f64::from_bits(1), 1.0]);
+                for k_max in [negative, positive, random.nan()] {
+                    let function = Coefficients::random(random, order, stable);
+                    points.push(Point {
+                        k_max,
+                        function,
+                        n,
+                        i,
+                    });
+                }
+            }
+        }
+    }
+    points
+}
+
+/// A pole with this squared magnitude, which is about 1.
+fn pole_of_square(random: &mut Random, square: f64) -> [f64; 2] {
+    loop {
+        let re = random.between(-1.0, 1.0);
+        let im = beside(re, square) * random.pick(&[1.0, -1.0]);
+        if re * re + im * im == square {
+            return random.pick(&[[re, im], [im, re]]);
+        }
+    }
+}
+
+fn pole_inside(random: &mut Random) -> [f64; 2] {
+    [(); 2].map(|_| random.between(-0.7, 0.7))
+}
+
+fn regions(random: &mut Random) -> Vec<Region> {
+    let circle = with_neighbours(1.0);
+    let mut regions = Vec::new();
+    for counted in [
+        [1.0, 0.0],
+        [0.5, 0.5],
+        [random.nan(), 0.0],
+        [0.0, random.nan()],
+    ] {
+        regions.push(Region::new(random, &[counted]));
+    }
+    // Every count with a pole that is not inside in every place, counted or not, or in none.
+    for count in (0..=10).chain([255, 256, 1 << 32, (1 << 32) + 8, u64::MAX]) {
+        for place in 0..=8 {
+            for _ in 0..3 {
+                let mut poles = [(); 8].map(|_| pole_inside(random));
+                if place < 8 {
+                    let square = random.pick(&circle[1..]);
+                    poles[place] = pole_of_square(random, square);
+                }
+                regions.push(Region { count, poles });
+            }
+        }
+    }
+    // Squared magnitude 1, the next below and the next above.
+    for square in circle {
+        for _ in 0..60 {
+            let mut counted: Vec<_> = (0..random.below(8)).map(|_| pole_inside(random)).collect();
+            counted.push(pole_of_square(random, square));
+            regions.push(Region::new(random, &counted));
+        }
+    }
+    // Poles of every class.
+    for re in specials() {
+        for im in specials() {
+            regions.push(Region::new(random, &[[re, im]]));
+        }
+    }
+    for _ in 0..200 {
+        let counted: Vec<_> = (0..random.below(9))
+            .map(|_| match random.below(12) {
+                0 => [random.special(), random.special()],
+                1 => [random.uniform_bits(), random.uniform_bits()],
+                2 => [(); 2].map(|_| random.between(-1.0, 1.0)),
+                _ => pole_inside(random),
+            })
+            .collect();
+        regions.push(Region::new(random, &counted));
+    }
+    regions
+}
