@@ -2,3 +2,4 @@ pub mod Loops
 pub mod Order
 pub mod Choice
 pub mod Outcome
+pub mod Least

@@ -6,3 +6,4 @@ pub mod Nearest
 pub mod Cases
 pub mod Sign
 pub mod Monotone
+pub mod Exact

@@ -3,3 +3,4 @@ pub mod Answers
 pub mod Search
 pub mod Scans
 pub mod Conditions
+pub mod Grids

@@ -32,19 +32,37 @@ pub fn float() -> f64 {
     wire::f64_from_bits(number())
 }
 
-// Fills the first `count` places of a list, or all where it is shorter, and answers how many that are.
-pub fn floats(list: &mut [f64], count: u64) -> usize
+// The float at place i of a list that starts with `pad` copies of its first float.
+fn float_at(i: usize, pad: u64, first: f64) -> f64 {
+    if i as u64 <= pad { first } else { float() }
+}
+
+// Makes a list of `count` floats that are read, with `pad` copies of the first of them before it, and answers its
+// length: 0 where `count` is 0. A list that does not fit is cut off.
+pub fn padded(list: &mut [f64], pad: u64, count: u64) -> usize
     ensures { λ r. ⌜ (r ≤ length (now (list .entry))) × (length (now (list .exit)) ≡ length (now (list .entry))) ⌝ }
 {
+    if count == 0 {
+        return 0;
+    }
+    let end = std::num::wrapping_add_u64(pad, count);
+    let first = float();
     let mut i: usize = 0;
     while i < list.len() {
-        if count <= i as u64 {
+        if end <= i as u64 {
             return i;
         }
-        list[i] = float();
+        list[i] = float_at(i, pad, first);
         i += 1;
     }
     i
+}
+
+// Fills the first `count` places of a list.
+pub fn floats(list: &mut [f64], count: u64) -> usize
+    ensures { λ r. ⌜ (r ≤ length (now (list .entry))) × (length (now (list .exit)) ≡ length (now (list .entry))) ⌝ }
+{
+    padded(list, 0, count)
 }
 
 // The place of a question's counts. A question from 16 on has that of question 0, which no file asks.
