@@ -24,8 +24,14 @@ fn skip() {
 // The entry on reading structs, the fifth answer, is asked by the comparison in host/.
 fn ask_bode(omega: &[f64], db: &[f64], phase: &[f64], tally: Tally) -> Tally {
     let asked = tally
-        .count(1, expected(bode::gain_crossover_frequency(omega, db, phase)))
-        .count(2, expected(bode::phase_crossover_frequency(omega, db, phase)))
+        .count(
+            1,
+            expected(bode::gain_crossover_frequency(omega, db, phase)),
+        )
+        .count(
+            2,
+            expected(bode::phase_crossover_frequency(omega, db, phase)),
+        )
         .count(3, expected(bode::gain_margin(omega, db, phase)))
         .count(4, expected(bode::phase_margin(omega, db, phase)));
     skip();
