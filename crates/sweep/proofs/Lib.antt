@@ -4,3 +4,4 @@ pub mod Search
 pub mod Scans
 pub mod Conditions
 pub mod Grids
+pub mod Runs

@@ -1,3 +1,4 @@
 pub mod Refusal
 pub mod Answer
 pub mod Scan
+pub mod Runs
