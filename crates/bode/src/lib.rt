@@ -1,11 +1,14 @@
 // Scans over a Bode sweep: gain and phase crossover, gain and phase margin.
 ghost use mathlib.Core.Path.{_≡_};
+ghost use mathlib.Core.Bool.{true};
 ghost use Prim.Native.Nat.{_<_};
 ghost use lib.ListN.{length};
-ghost use Rattle.sweep.specs.Refusal.{SameLength};
-ghost use Rattle.sweep.specs.Answer.{outcomeOf};
-ghost use Rattle.sweep.specs.Scan.{firstPair, at3, scannedBy};
-ghost use Rattle.bode.specs.Bode.{reading, readings, gainBetween, phaseBetween, gainCrossover, phaseCrossover, partOfWay, valueAt, gainMarginPair, phaseMarginPair, gainMargin, phaseMargin};
+ghost use Rattle.sweep.specs.Refusal.{SameLength, scanRefusal};
+ghost use Rattle.sweep.specs.declared.Sought.the-variants.{Zero};
+ghost use Rattle.sweep.specs.Answer.{outcomeOf, scanned};
+ghost use Rattle.sweep.specs.Scan.{firstPair, at3, scannedBy, crossesBy};
+ghost use Rattle.bode.specs.Bode.{reading, readings, gainBetween, gainPair, phaseBetween, gainCrossover, phaseCrossover, partOfWay, valueAt, gainMarginPair, phaseMarginPair, gainMargin, phaseMargin};
+ghost use Rattle.bode.specs.Readings.{omegas, dbs, phases, scanLength, begun, taken};
 use sweep::Answer;
 use sweep::Check;
 use sweep::Crossing;
@@ -182,4 +185,104 @@ pub fn phase_margin(omega: &[f64], db: &[f64], phase: &[f64]) -> Answer
         Check::Refused(e) => Answer::Refused(e),
         Check::Passed => sweep::found(phase_margin_of(omega, db, phase)),
     }
+}
+
+// A scan of readings on its way: the last two that it took, and the place where it ends.
+struct GainScan {
+    earlier: Reading,
+    last: Reading,
+    end: usize,
+}
+
+// Whether one of two dB values is at or above 0 and the other at or below, told by the second where it is not 0.
+fn crosses_0_db(a: f64, b: f64) -> bool
+    ensures { λ r. ⌜ r ≡ crossesBy Zero a b ⌝ }
+{
+    if b > 0.0 {
+        return a <= 0.0;
+    }
+    if b < 0.0 {
+        return a >= 0.0;
+    }
+    sweep::crosses(Sought::Zero, a, b)
+}
+
+// How many of n readings are scanned: none where there are too many.
+fn scan_length(n: usize) -> usize
+    ensures { λ r. ⌜ r ≡ scanLength n ⌝ }
+{
+    if 4096 < n { 0 } else { n }
+}
+
+// The scan of n readings before the first. A NaN crosses nothing.
+fn gain_scan(n: usize) -> GainScan
+    ensures { λ r. ⌜ r ≡ begun n ⌝ }
+{
+    let nan = 0.0 / 0.0;
+    let none = Reading {
+        omega: nan,
+        db: nan,
+        phase: nan,
+    };
+    GainScan {
+        earlier: none,
+        last: none,
+        end: scan_length(n),
+    }
+}
+
+// The scan after one reading more. Its end is reached where that one and the last cross.
+fn take_reading(s: GainScan, r: Reading) -> GainScan
+    ensures { λ t. ⌜ t ≡ taken s r ⌝ }
+{
+    let last = s.last;
+    if crosses_0_db(last.db, r.db) {
+        return GainScan {
+            earlier: last,
+            last: r,
+            end: 0,
+        };
+    }
+    GainScan {
+        earlier: last,
+        last: r,
+        end: s.end,
+    }
+}
+
+// Where two readings cross 0 dB.
+fn gain_pair(a: Reading, b: Reading) -> Crossing
+    ensures { λ r. ⌜ r ≡ gainPair a b ⌝ }
+{
+    if crosses_0_db(a.db, b.db) {
+        return Crossing::At(gain_between(a, b));
+    }
+    Crossing::Missing
+}
+
+// What a scan of n readings answers at its end.
+fn gain_scanned(s: GainScan, n: usize) -> Answer
+    ensures { λ r. ⌜ outcomeOf r ≡ scanned (scanRefusal true n) (gainPair (s .earlier) (s .last)) ⌝ }
+{
+    match sweep::check_scan(true, n) {
+        Check::Refused(e) => Answer::Refused(e),
+        Check::Passed => {
+            let earlier = s.earlier;
+            let last = s.last;
+            sweep::found(gain_pair(earlier, last))
+        }
+    }
+}
+
+// The frequency where the magnitude first crosses 0 dB, of a lent slice of readings.
+pub fn gain_crossover_readings(rs: &[Reading]) -> Answer
+    ensures { λ r. ⌜ outcomeOf r ≡ scannedBy reading gainCrossover (omegas (now (rs .entry))) (dbs (now (rs .entry))) (phases (now (rs .entry))) ⌝ }
+{
+    let mut s = gain_scan(rs.len());
+    let mut i: usize = 0;
+    while i < s.end {
+        s = take_reading(s, rs[i]);
+        i += 1;
+    }
+    gain_scanned(s, rs.len())
 }
