@@ -6,9 +6,9 @@ use native.Mathlib.Nat.{mul-pos, zero-lt-suc, zero-mul}
 use native.Mathlib.Omega.{arith}
 use lib.IntN.{ℤ}
 use lib.Dec.{T, ltb, lt→ltb}
-use lib.Ieee.{Float, nan, inf, fin, binary64, up, down, lt, isNan, ofBits}
+use lib.Ieee.{Float, nan, inf, fin, binary64, up, down, lt, isNan, fits, ofBits, toBits}
 use lib.Ieee.Fits.{up-pos}
-use lib.Ieee.Bits.{ofBits-fits}
+use lib.Ieee.Bits.{ofBits-fits, ofBits-toBits, toBits-lt}
 use lib.Ieee.Exact.{HasValue}
 use lib.Ieee.Positive.{positive, above}
 use borrow.Author.Tests.{lt-ltb, ltb-true}
@@ -47,15 +47,6 @@ zero-lt (fin false (suc m) e) h = lt→ltb 0 (suc m) (zero-lt-suc m)
 pub minus-below : (m : ℕ) (e : ℤ) → lt (fin true (suc m) e) (ofBits binary64 0) ≡ true
 unfolding lt ofBits
 minus-below m e = nothing-above m (up e) (down e) (up-pos e)
-
-pub ordinary-if : (x : Float) → lt (ofBits binary64 0) x ≡ true → lt x (ofBits binary64 (2047 * 2 ^ 52)) ≡ positive x
-unfolding lt ofBits
-ordinary-if nan h = absurd (false≢true h)
-ordinary-if (inf true) h = absurd (false≢true h)
-ordinary-if (inf false) h = refl
-ordinary-if (fin true m e) h = absurd (false≢true h)
-ordinary-if (fin false zero e) h = absurd (zero-not-above (up e) (down e) h)
-ordinary-if (fin false (suc m) e) h = sym (lt-ltb 0 (suc m) (zero-lt-suc m))
 
 pub ordinary-not : (x : Float) → lt (ofBits binary64 0) x ≡ false → false ≡ positive x
 unfolding lt ofBits
@@ -116,3 +107,24 @@ positive-bits b l p =
     let d = at (2047 * 2 ^ 52) not-infinity in
     let g = not-negative b l p in
     omega (arith, low, a, c, d, g)
+
+-- ---- above zero, the patterns of the finite values are those below infinity's
+pub above-number : (x : Float) → lt (ofBits binary64 0) x ≡ true → T (not (isNan x))
+unfolding lt ofBits isNan
+above-number nan h = absurd (false≢true h)
+above-number (inf s) h = tt
+above-number (fin s m e) h = tt
+
+below-infinity : (x : Float) → T (fits binary64 x) → T (positive x) → ltb (toBits binary64 x) (2047 * 2 ^ 52) ≡ true
+below-infinity x f p =
+    let b = positive-bits (toBits binary64 x) (toBits-lt binary64 x f) (subst (λ (v : Float). T (positive v)) (sym (ofBits-toBits binary64 x f)) p) in
+    lt-ltb (toBits binary64 x) (2047 * 2 ^ 52) (b .1)
+
+pub ordinary-if : (x : Float) → T (fits binary64 x) → lt (ofBits binary64 0) x ≡ true → ltb (toBits binary64 x) (2047 * 2 ^ 52) ≡ positive x
+unfolding lt ofBits toBits
+ordinary-if nan f h = absurd (false≢true h)
+ordinary-if (inf true) f h = absurd (false≢true h)
+ordinary-if (inf false) f h = refl
+ordinary-if (fin true m e) f h = absurd (false≢true h)
+ordinary-if (fin false zero e) f h = absurd (zero-not-above (up e) (down e) h)
+ordinary-if (fin false (suc m) e) f h = below-infinity (fin false (suc m) e) f (lt→ltb 0 (suc m) (zero-lt-suc m)) ∙ sym (lt-ltb 0 (suc m) (zero-lt-suc m))

@@ -99,9 +99,9 @@ nearest-is m r lo hi a b = elim (eq-zero-or-pos (r * r - m * 2 ^ 52)) [
 ]
 
 -- ---- from 31 digits to 53, by one division: (s * 2 ^ 22 - k) ^ 2 against m * 2 ^ 52
-module _ (m s : ℕ) (lo : 2 ^ 52 ≤ m) (hi : m ≤ 2 ^ 54 - 2) (a : m * 256 < s * s) (b : s * s ≤ m * 256 + 27 * s) where
+module _ (m s excess : ℕ) (lo : 2 ^ 52 ≤ m) (hi : m ≤ 2 ^ 54 - 2) (a : 0 < excess) (b : excess ≤ 27 * s) (e : m * 256 + excess ≡ s * s) where
   abbrev over : ℕ
-  over = (s * s - m * 256) * 2 ^ 21
+  over = excess * 2 ^ 21
 
   abbrev k : ℕ
   k = over / s
@@ -109,7 +109,7 @@ module _ (m s : ℕ) (lo : 2 ^ 52 ≤ m) (hi : m ≤ 2 ^ 54 - 2) (a : m * 256 < 
   abbrev root : ℕ
   root = s * 2 ^ 22 - k
 
-  pub s-low : 2 ^ 30 < s
+  s-low : 2 ^ 30 < s
   s-low = square-lt (2 ^ 30) s (omega arith)
 
   pub s-high : s < 2 ^ 32

@@ -1,4 +1,4 @@
--- The loop keeps the number, and its exponent stays high: the number is 2 ^ 1074 at least, and the significand below 2 ^ 53.
+-- The loop keeps the number, and its exponent stays high: the number is 2 ^ 1022 at least, and the significand below 2 ^ 53.
 use Prim.Native.Nat.{_≤_, _<_, _*_, _-_, _^_}
 use mathlib.Core.Path.{_≡_}
 use native.Mathlib.Omega.{arith}
@@ -13,10 +13,10 @@ Inv-loop significand₀ exponent₀ significand exponent =
 abbrev μ-loop : tie.MeasureT-loop
 μ-loop significand₀ exponent₀ significand exponent = 2 ^ 52 - significand
 
-high : (c : tie.At-loop Inv-loop μ-loop) → 1021 < c .loop .exponent
+high : (c : tie.At-loop Inv-loop μ-loop) → 969 < c .loop .exponent
 high c =
     let s = c .before .args .s in
-    still-high (c .loop .significand) (c .loop .exponent) (s .significand) (s .exponent) 1021 (c .loop .inv .0) (c .before .pre .0) (c .loop .inv .2) (c .before .pre .2)
+    still-high (c .loop .significand) (c .loop .exponent) (s .significand) (s .exponent) 969 (c .loop .inv .0) (c .before .pre .0) (c .loop .inv .2) (c .before .pre .2)
 
 loop-again : tie.Need-loop-again Inv-loop μ-loop
 loop-again c =

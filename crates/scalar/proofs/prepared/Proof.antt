@@ -1,4 +1,6 @@
 use mathlib.Core.Path.{_≡_, sym, ap, _∙_, subst}
+use Prim.Native.Nat.{ℕ, _*_, _^_}
+use native.Mathlib.Nat.{mul-right-comm}
 use borrow.Author.Needs.{needs}
 use lib.Dec.{T}
 use lib.Ieee.{Float, binary64, fits, toBits, ofBits}
@@ -22,9 +24,21 @@ radicand-requires c κs =
 
 returns : tie.Need-returns
 returns c =
-    let s = c .before .before .before in
+    let start = c .before .before .before in
+    let first = c .before .before .radicand in
     let e = c .evened .ensures in
-    (ap sqrtOf (sym (back s)) ∙ c .before .before .radicand .ensures .0 ∙ ap rounded (sym (c .before .normalized .ensures .0) ∙ sym (e .0)), e .1, e .2, e .3, e .4)
+    let kept = sym (c .before .normalized .ensures .0) ∙ sym (e .0) in (
+      ap sqrtOf (sym (back start))
+          ∙ first .ensures .0
+          ∙ ap rounded
+          (mul-right-comm (first .result .significand) (2 ^ 52) (2 ^ first .result .exponent)
+          ∙ ap (λ (x : ℕ). x * 2 ^ 52) kept
+          ∙ mul-right-comm (c .evened .result .significand) (2 ^ c .evened .result .exponent) (2 ^ 52)),
+      e .1,
+      e .2,
+      e .3,
+      e .4,
+    )
 
 pub prepared-spec : {M : Type 1} → statement M
 prepared-spec =
