@@ -1,31 +1,137 @@
--- Laws of the gains that a reader will look for. Assumes nothing.
-use Prim.Native.Nat.{ℕ, _-_, _≤_}
-use mathlib.Core.Path.{_≡_, refl, ap, _∙_}
-use mathlib.Core.Bool.{false}
-use mathlib.Core.List.{[], _∷_}
+-- Laws of poles and of locus points that a reader will look for. Assumes nothing.
+use Prim.Native.Nat.{ℕ, zero, suc, _+_, _-_, _<_, _≤_, min}
+use mathlib.Core.Path.{_≡_, refl, sym, ap, _∙_}
+use mathlib.Core.Bool.{Bool, true, false, cond, true≢false}
+use mathlib.Core.List.{List, [], _∷_}
 use native.Mathlib.Omega.{arith}
-use lib.IntN.{pos}
-use lib.Dec.{T}
-use lib.Ieee.{Float, inf, binary64, mul, div, ofInt, ofBits}
-use lib.Ieee.Positive.{positive}
-use Rattle.laws.specs.Loops.{upTo}
-use Rattle.scalar.specs.Scalar.{f0}
-use Rattle.scalar.proofs.Exact.{times-zero, zero-over, whole-positive}
+use borrow.Author.Tests.{eqb-true, ne-eqb}
+use lib.Dec.{eqb}
+use lib.ListN.{length, getD, take, replicate, length-take, getD-replicate}
+use lib.Seq.{getD-take, getD-append-add}
+use lib.Ieee.{Float, le}
+use Rattle.laws.proofs.Loops.{length-upTo}
+use Rattle.scalar.specs.Scalar.{f0, f1}
+use Rattle.complex.specs.declared.Complex.{Complex}
+use Rattle.complex.specs.Complex.{fromReal, magnitudeSq}
+use Rattle.sweep.specs.declared.Check.{Check}
+use Rattle.sweep.proofs.Numbers.{check-known}
+use Rattle.transfer_fn.specs.declared.TransferFn.{TransferFn}
+use Rattle.root_locus.specs.declared.LocusPoint.{LocusPoint}
 use Rattle.root_locus.specs.Gain.{gainAt}
+use Rattle.root_locus.specs.Polynomial.{loopPolynomial, counting, degreeOf}
+use Rattle.root_locus.specs.StartingPoints.{startingPoints}
+use Rattle.root_locus.specs.Search.{nowhere}
+use Rattle.root_locus.specs.Roots.{linear, discriminant, realPair, complexPair, quadratic, quotientAt, monic, searched, byDegree, padded}
+use Rattle.root_locus.specs.Stability.{outside, noneOutside, stable}
+use Rattle.root_locus.specs.Locus.{locusRefusal, Point, pointOf, foundPoint, noPoint, pointAt, locusPointAt}
+use Rattle.root_locus.proofs.Padding.{as-many, rounds-long}
 
--- the first gain up to a finite top above 0 is +0
-pub first-gain : (top : Float) → T (positive top) → (n : ℕ) → 2 ≤ n → n ≤ 4096 → gainAt top n 0 ≡ f0
-unfolding gainAt ofInt ofBits
-first-gain top p n two most =
-    ap (λ (x : Float). div binary64 x (ofInt binary64 (pos (n - 1)))) (times-zero top p)
-    ∙ zero-over (ofInt binary64 (pos (n - 1))) (whole-positive (n - 1) (omega arith) (omega arith))
+-- ---- stable: no counted pole has squared magnitude ≥ 1
 
--- five gains up to 8: 0, 2, 4, 6, 8
-pub five-gains : upTo (gainAt (ofInt binary64 (pos 8)) 5) 5 ≡ f0 ∷ ofInt binary64 (pos 2) ∷ ofInt binary64 (pos 4) ∷ ofInt binary64 (pos 6) ∷ ofInt binary64 (pos 8) ∷ []
-unfolding upTo gainAt mul div ofInt ofBits
-five-gains = refl
+none-means : (zs : List Complex) → noneOutside zs ≡ true → (i : ℕ) → i < length zs → outside (getD zs i nowhere) ≡ false
+unfolding noneOutside
+none-means [] h i l = absurd (omega arith)
+none-means (z ∷ zs) h zero l = go (outside z) h
+  where
+    go : (b : Bool) → cond b false (noneOutside zs) ≡ true → b ≡ false
+    go true h = absurd (true≢false (sym h))
+    go false h = refl
+none-means (z ∷ zs) h (suc i) l = none-means zs (go (outside z) h) i (omega arith)
+  where
+    go : (b : Bool) → cond b false (noneOutside zs) ≡ true → noneOutside zs ≡ true
+    go true h = absurd (true≢false (sym h))
+    go false h = h
 
--- the product comes first: the last gain up to the largest number is infinite, where the last frequency is that number
-pub last-gain-overflows : gainAt (ofBits binary64 0x7fef_ffff_ffff_ffff) 3 2 ≡ inf false
-unfolding gainAt mul div ofInt ofBits
-last-gain-overflows = refl
+some-means : (zs : List Complex) → noneOutside zs ≡ false → (i : ℕ) × ((i < length zs) × (outside (getD zs i nowhere) ≡ true))
+unfolding noneOutside
+some-means [] h = absurd (true≢false h)
+some-means (z ∷ zs) h = go (outside z) refl h (some-means zs)
+  where
+    go : (b : Bool) → outside z ≡ b → cond b false (noneOutside zs) ≡ false → (noneOutside zs ≡ false → (i : ℕ) × ((i < length zs) × (outside (getD zs i nowhere) ≡ true)))
+        → (i : ℕ) × ((i < length (z ∷ zs)) × (outside (getD (z ∷ zs) i nowhere) ≡ true))
+    go true e h next = (zero, (omega arith, e))
+    go false e h next = let n = next h in (suc (n .0), (omega arith, n .1 .1))
+
+module _ (poles : List Complex) (eight : length poles ≡ 8) (count : ℕ) where
+  long : length (take (min count 8) poles) ≡ min count 8
+  long = length-take (min count 8) poles ∙ rw eight (omega arith)
+
+  -- true: every counted pole has not
+  pub stable-means : stable poles count ≡ true → (i : ℕ) → i < min count 8 → le f1 (magnitudeSq (getD poles i nowhere)) ≡ false
+  unfolding stable outside
+  stable-means h i l = rw (getD-take (min count 8) poles i nowhere l) at (none-means (take (min count 8) poles) h i (rw long l))
+
+  -- false: some counted pole has
+  pub unstable-means : stable poles count ≡ false → (i : ℕ) × ((i < min count 8) × (le f1 (magnitudeSq (getD poles i nowhere)) ≡ true))
+  unfolding stable outside
+  unstable-means h =
+      let s = some-means (take (min count 8) poles) h in
+      let l : s .0 < min count 8 = rw long at (s .1 .0) in
+      (s .0, (l, rw (getD-take (min count 8) poles (s .0) nowhere l) at (s .1 .1)))
+
+-- ---- as many poles as the degree that is left, but for the cubic
+pub pole-count : (p : List Float) → (degreeOf p ≡ 3 → ⊥) → length (byDegree p) ≡ degreeOf p
+unfolding byDegree
+pole-count [] h = refl
+pole-count (c ∷ []) h = refl
+pole-count (c ∷ d ∷ []) h = unfold linear in refl
+pole-count (c0 ∷ c1 ∷ c2 ∷ []) h = unfold quadratic realPair complexPair in two (le f0 (discriminant c0 c1 c2)) _ _ _ _
+  where
+    two : (b : Bool) (u v x y : Complex) → length (cond b (u ∷ v ∷ []) (x ∷ y ∷ [])) ≡ 2
+    two true u v x y = refl
+    two false u v x y = refl
+pole-count (c ∷ d ∷ e ∷ f ∷ []) h = absurd (h refl)
+pole-count (c ∷ d ∷ e ∷ f ∷ g ∷ p) h = found (c ∷ d ∷ e ∷ f ∷ g ∷ p)
+  where
+    found : (q : List Float) → length (searched q) ≡ degreeOf q
+    found q = unfold searched in (rounds-long (monic q) [] 200 (startingPoints (degreeOf q)) (as-many q) ∙ unfold monic in length-upTo (quotientAt q) (degreeOf q))
+
+-- ---- a locus point
+module _ (tf : TransferFn) (k-max : Float) (n i : ℕ) where
+  abbrev left : List Float
+  left = counting (loopPolynomial tf (gainAt k-max n i))
+
+  abbrev refusal : ℕ
+  refusal = locusRefusal (tf .order) k-max n i (degreeOf left)
+
+  pub point-number : locusPointAt tf k-max n i .number ≡ refusal
+  unfolding locusPointAt pointAt foundPoint noPoint
+  point-number = go (eqb refusal 0) refl
+    where
+      go : (b : Bool) → eqb refusal 0 ≡ b → cond b (foundPoint (gainAt k-max n i) (byDegree left)) (noPoint refusal) .number ≡ refusal
+      go true e = sym (eqb-true refusal 0 e)
+      go false e = refl
+
+  -- one that is not turned away has the gain and the roots
+  pub point-found : refusal ≡ 0 → locusPointAt tf k-max n i ≡ foundPoint (gainAt k-max n i) (byDegree left)
+  unfolding locusPointAt pointAt
+  point-found h = rw h
+
+  -- one that is turned away is its number alone
+  pub point-refused-alone : 0 < refusal → locusPointAt tf k-max n i ≡ noPoint refusal
+  unfolding locusPointAt pointAt
+  point-refused-alone h = rw (ne-eqb refusal 0 (λ (e : refusal ≡ 0). omega arith))
+
+-- the places past the poles hold (0, 0)
+pub past-count : (zs : List Complex) (j : ℕ) → length zs ≤ j → j < 8 → getD (padded zs) j nowhere ≡ fromReal f0
+unfolding padded
+past-count zs j h l =
+    let m = j - length zs in
+    let e : j ≡ length zs + m = omega arith in
+    rw (e, getD-append-add zs (replicate (8 - length zs) (fromReal f0)) m nowhere) (getD-replicate (8 - length zs) m (fromReal f0) nowhere (omega arith))
+
+-- a locus point is known by what it comes to
+pub point-known : (p q : LocusPoint) → pointOf p ≡ pointOf q → p ≡ q
+unfolding pointOf
+point-known p q h =
+    let a : p .check ≡ q .check = check-known (p .check) (q .check) (ap (λ (o : Point). o .number) h) in
+    let b : p .gain ≡ q .gain = ap (λ (o : Point). o .gain) h in
+    let c : p .poles ≡ q .poles = ap (λ (o : Point). o .poles) h in
+    let d : p .count ≡ q .count = ap (λ (o : Point). o .count) h in
+    made a b c d
+  where
+    of : Check → Float → List Complex → ℕ → LocusPoint
+    of a b c d = record { check = a; gain = b; poles = c; count = d }
+
+    made : {a a′ : Check} {b b′ : Float} {c c′ : List Complex} {d d′ : ℕ} → a ≡ a′ → b ≡ b′ → c ≡ c′ → d ≡ d′ → of a b c d ≡ of a′ b′ c′ d′
+    made e f g h = rw (e, f, g, h)

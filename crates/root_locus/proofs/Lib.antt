@@ -1,1 +1,10 @@
+pub mod Lists
+pub mod Coefficients
+pub mod Rounds
+pub mod Padding
+pub mod ByDegree
+pub mod Table
+pub mod Poles
+pub mod Conditions
 pub mod Laws
+pub mod Gains

@@ -1,0 +1,61 @@
+-- The points of the root locus, in the numbers of document 01. Definitions only.
+use Prim.Native.Nat.{ℕ}
+use mathlib.Core.Bool.{cond}
+use mathlib.Core.List.{List, []}
+use lib.Dec.{eqb, ltb, leb}
+use lib.ListN.{length}
+use lib.Ieee.{Float, le}
+use Rattle.laws.specs.Outcome.{when}
+use Rattle.scalar.specs.Scalar.{f0}
+use Rattle.complex.specs.declared.Complex.{Complex}
+use Rattle.sweep.specs.Refusal.{refusalOf}
+use Rattle.transfer_fn.specs.declared.TransferFn.{TransferFn}
+use Rattle.root_locus.specs.declared.LocusPoint.{LocusPoint}
+use Rattle.root_locus.specs.Gain.{gainAt}
+use Rattle.root_locus.specs.Polynomial.{loopPolynomial, counting, degreeOf}
+use Rattle.root_locus.specs.Roots.{byDegree, padded}
+
+-- 1 if n < 2; 3 if k-max ≤ 0, which a NaN passes; 3 if the order is above 8; 16 if it is 0; 15 if n > 4,096; 17 if i ≥ n; 12 if the degree left is 3
+unfoldable pub locusRefusal : ℕ → Float → ℕ → ℕ → ℕ → ℕ
+locusRefusal order k-max n i degree =
+    when (ltb n 2) 1 (
+    when (le k-max f0) 3 (
+    when (ltb 8 order) 3 (
+    when (eqb order 0) 16 (
+    when (ltb 4096 n) 15 (
+    when (leb n i) 17 (
+    when (eqb degree 3) 12 0))))))
+
+-- What a point comes to: 0 with the gain, how many poles there are, and the poles; or a refusal's number with nothing else.
+pub record Point : Type 0 where
+  pub number : ℕ
+  pub gain : Float
+  pub count : ℕ
+  pub poles : List Complex
+
+-- what the program answers, in these terms
+unfoldable pub pointOf : LocusPoint → Point
+pointOf p = record { number = refusalOf (p .check); gain = p .gain; count = p .count; poles = p .poles }
+
+-- the gain and the poles, with (0, 0) in the places past them
+unfoldable pub foundPoint : Float → List Complex → Point
+foundPoint gain poles = record { number = 0; gain = gain; count = length poles; poles = padded poles }
+
+-- a refusal: gain 0 and no poles
+unfoldable pub noPoint : ℕ → Point
+noPoint n = record { number = n; gain = f0; count = 0; poles = padded [] }
+
+-- the point whose polynomial is left with the coefficients p, under the conditions that are known before
+unfoldable pub leftPoint : Float → List Float → Point
+leftPoint gain p = cond (eqb (degreeOf p) 3) (noPoint 12) (foundPoint gain (byDegree p))
+
+-- the point under conditions that gave n
+unfoldable pub pointAt : ℕ → Float → List Complex → Point
+pointAt n gain poles = cond (eqb n 0) (foundPoint gain poles) (noPoint n)
+
+-- Point i of n: the roots of what is left of the loop polynomial at gain i.
+unfoldable pub locusPointAt : TransferFn → Float → ℕ → ℕ → Point
+locusPointAt tf k-max n i =
+    let gain = gainAt k-max n i in
+    let left = counting (loopPolynomial tf gain) in
+    pointAt (locusRefusal (tf .order) k-max n i (degreeOf left)) gain (byDegree left)
