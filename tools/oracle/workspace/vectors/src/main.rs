@@ -1,5 +1,6 @@
 //! Makes the test vectors by asking the Rust. `vectors FOLDER` writes FOLDER/NAME/stdin for each
 //! file and prints how many cases of each kind it holds. README.md gives the formats.
+//! `vectors start-table` prints the starting points of the root search instead.
 
 mod coefficients;
 mod complex;
@@ -10,6 +11,7 @@ mod numbers;
 mod random;
 mod scans;
 mod sensitivity;
+mod start_table;
 mod words;
 
 use std::path::Path;
@@ -17,6 +19,10 @@ use std::{env, fs, io};
 
 fn main() -> io::Result<()> {
     let folder = env::args_os().nth(1).expect("usage: vectors FOLDER");
+    if folder == "start-table" {
+        print!("{}", start_table::lines());
+        return Ok(());
+    }
     let files = [
         ("replay_complex", complex::vectors()),
         ("replay_sensitivity", sensitivity::vectors()),
