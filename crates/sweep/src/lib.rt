@@ -6,6 +6,7 @@ ghost use lib.Dec.{ltb};
 ghost use Rattle.sweep.specs.Refusal.{numberOf, refusalOf, scanRefusal, listsRefusal, gridRefusal};
 ghost use Rattle.sweep.specs.Answer.{outcomeOf, crossingOutcome};
 ghost use Rattle.sweep.specs.Scan.{orElse, crossesBy, between, firstIndex};
+ghost use Rattle.sweep.specs.declared.Sought.the-variants.{Zero};
 
 // Why a call is turned away. The first three are the Rust's.
 pub enum FreqError {
@@ -130,12 +131,25 @@ pub enum Sought {
     Enclosing(f64),
 }
 
+// Whether one of a and b is at or above 0, and the other at or below. In a scan the branches, which are the Rust's, are
+// quicker than four tests joined.
+fn crosses_zero(a: f64, b: f64) -> bool
+    ensures { λ r. ⌜ r ≡ crossesBy Zero a b ⌝ }
+{
+    if a >= 0.0 {
+        if b <= 0.0 {
+            return true;
+        }
+    }
+    (a <= 0.0) & (b >= 0.0)
+}
+
 // Whether the values a and b of two neighbours have what is sought.
 pub fn crosses(sought: Sought, a: f64, b: f64) -> bool
     ensures { λ r. ⌜ r ≡ crossesBy sought a b ⌝ }
 {
     match sought {
-        Sought::Zero => ((a >= 0.0) & (b <= 0.0)) | ((a <= 0.0) & (b >= 0.0)),
+        Sought::Zero => crosses_zero(a, b),
         Sought::Level(level) => (a > level) != (b > level),
         Sought::Drop(level) => (a >= level) & (b < level),
         Sought::Enclosing(x) => (a <= x) & (x <= b),

@@ -14,13 +14,13 @@ use std::f64::consts::PI;
 use Question::*;
 
 /// The longest list lent.
-const MAX_ROOM: u64 = 4200;
+pub const MAX_ROOM: u64 = 4200;
 
 /// The grid, or the number of a refusal.
-type Answer = Result<Vec<f64>, u64>;
+pub type Answer = Result<Vec<f64>, u64>;
 
 #[derive(Clone, Copy, Debug)]
-enum Question {
+pub enum Question {
     Gains = 1,
     Frequencies,
 }
@@ -40,12 +40,12 @@ impl Question {
 }
 
 /// What is asked: `n` points up to `top`, into a list of `room` places.
-#[derive(Clone, Copy)]
-struct Case {
-    question: Question,
-    top: f64,
-    n: u64,
-    room: u64,
+#[derive(Clone, Copy, Debug)]
+pub struct Case {
+    pub question: Question,
+    pub top: f64,
+    pub n: u64,
+    pub room: u64,
 }
 
 impl Case {
@@ -59,7 +59,7 @@ impl Case {
     }
 
     /// Document 01's conditions, in its order.
-    fn refusal(&self) -> Option<u64> {
+    pub fn refusal(&self) -> Option<u64> {
         if self.n < 2 {
             Some(INSUFFICIENT_POINTS)
         } else if self.top <= 0.0 {
@@ -76,7 +76,9 @@ impl Case {
         }
     }
 
-    fn answer(&self) -> Answer {
+    /// The grid by the Rust, or the refusal by document 01. If it is not refused, the Rust must be
+    /// built with this number of points.
+    pub fn answer(&self) -> Answer {
         let refusal = self.refusal();
         let asked = self.asked();
         if let Some(answer) = &asked {
@@ -134,7 +136,7 @@ fn ample(random: &mut Random, question: Question, top: f64, n: u64) -> Case {
 }
 
 /// Tops of every class that passes.
-fn tops(random: &mut Random) -> Vec<f64> {
+pub fn tops(random: &mut Random) -> Vec<f64> {
     vec![
         f64::from_bits(1),
         random.subnormal().abs(),

@@ -2,20 +2,9 @@
 //! file and prints how many cases of each kind it holds. README.md gives the formats.
 //! `vectors start-table` prints the starting points of the root search instead.
 
-mod coefficients;
-mod complex;
-mod constant;
-mod grids;
-mod locus;
-mod numbers;
-mod random;
-mod scans;
-mod sensitivity;
-mod start_table;
-mod words;
-
 use std::path::Path;
 use std::{env, fs, io};
+use vectors::{complex, grids, locus, scans, sensitivity, start_table};
 
 fn main() -> io::Result<()> {
     let folder = env::args_os().nth(1).expect("usage: vectors FOLDER");

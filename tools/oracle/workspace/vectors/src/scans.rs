@@ -13,20 +13,20 @@ use std::fmt::Debug;
 use Kind::*;
 
 /// As many readings the Rust's lists can hold: no scan that is not refused has more.
-const ROOM: usize = MAX_POINTS as usize;
+pub const ROOM: usize = MAX_POINTS as usize;
 /// No list is longer without its pad.
 const MAX_EXPLICIT: usize = 80;
 /// No list is longer with it.
 const MAX_LENGTH: usize = 5000;
 
 /// The phase that is crossed.
-const HALF_TURN: f64 = -180.0;
+pub const HALF_TURN: f64 = -180.0;
 
 /// A value, none, or the number of a refusal.
-type Answer = Result<Option<f64>, u64>;
+pub type Answer = Result<Option<f64>, u64>;
 
 /// How to make a list of a length, whose values lie about a centre.
-type Style = fn(&mut Random, usize, f64) -> Vec<f64>;
+pub type Style = fn(&mut Random, usize, f64) -> Vec<f64>;
 
 #[derive(Clone, Copy, Debug)]
 enum Kind {
@@ -128,9 +128,9 @@ fn number(answer: Answer) -> u64 {
 }
 
 /// Document 01's conditions, in its order.
-fn refusal(lists: &[Vec<f64>]) -> Option<u64> {
-    let length = lists[0].len();
-    if lists.iter().any(|list| list.len() != length) {
+pub fn refusal<L: AsRef<[f64]>>(lists: &[L]) -> Option<u64> {
+    let length = lists[0].as_ref().len();
+    if lists.iter().any(|list| list.as_ref().len() != length) {
         Some(LENGTHS_DIFFER)
     } else if length > ROOM {
         Some(TOO_MANY)
@@ -162,19 +162,9 @@ fn answers(case: &Case) -> [Answer; 5] {
 
 /// What the Rust answers to the questions of a kind.
 fn scan(kind: Kind, lists: &[Vec<f64>]) -> Vec<Option<f64>> {
-    // Is not read.
-    let other = f64::NAN;
-    let readings = 0..lists[0].len();
     match kind {
         Bode => {
-            let points = readings.map(|i| BodePoint {
-                omega: lists[0][i],
-                magnitude_db: lists[1][i],
-                phase_deg: lists[2][i],
-            });
-            let data = BodeData::<_, ROOM> {
-                points: held(points),
-            };
+            let data = bode_data::<ROOM>([&lists[0], &lists[1], &lists[2]]);
             vec![
                 gain_crossover_frequency(&data),
                 phase_crossover_frequency(&data),
@@ -184,35 +174,60 @@ fn scan(kind: Kind, lists: &[Vec<f64>]) -> Vec<Option<f64>> {
             ]
         }
         Sensitivity => {
-            let points = readings.map(|i| SensitivityPoint {
-                omega: lists[0][i],
-                sensitivity_db: lists[1][i],
-                comp_sensitivity_db: lists[2][i],
-                control_sensitivity_db: other,
-            });
-            let data = SensitivityData::<_, ROOM> {
-                points: held(points),
-            };
+            let data = sensitivity_data::<ROOM>([&lists[0], &lists[1], &lists[2]]);
             vec![sensitivity_crossover(&data), bandwidth(&data)]
         }
         Curve => {
-            let points = readings.map(|i| NyquistPoint {
-                re: lists[0][i],
-                im: lists[1][i],
-                omega: other,
-            });
-            let data = NyquistData::<_, ROOM> {
-                points: held(points),
-            };
+            let data = nyquist_data::<ROOM>([&lists[0], &lists[1]]);
             vec![Some(distance_to_critical(&data))]
         }
     }
 }
 
-fn held<T: Debug>(points: impl Iterator<Item = T>) -> HVec<T, ROOM> {
+/// Fills what the Rust has and a scan does not read.
+const UNREAD: f64 = f64::NAN;
+
+/// ω, dB and phase as the Rust holds them.
+pub fn bode_data<const N: usize>([omega, db, phase]: [&[f64]; 3]) -> BodeData<f64, N> {
+    let points = (0..omega.len()).map(|i| BodePoint {
+        omega: omega[i],
+        magnitude_db: db[i],
+        phase_deg: phase[i],
+    });
+    BodeData {
+        points: held(points),
+    }
+}
+
+/// ω, S and T as the Rust holds them.
+pub fn sensitivity_data<const N: usize>([omega, s, t]: [&[f64]; 3]) -> SensitivityData<f64, N> {
+    let points = (0..omega.len()).map(|i| SensitivityPoint {
+        omega: omega[i],
+        sensitivity_db: s[i],
+        comp_sensitivity_db: t[i],
+        control_sensitivity_db: UNREAD,
+    });
+    SensitivityData {
+        points: held(points),
+    }
+}
+
+/// Real and imaginary parts as the Rust holds them.
+pub fn nyquist_data<const N: usize>([re, im]: [&[f64]; 2]) -> NyquistData<f64, N> {
+    let points = (0..re.len()).map(|i| NyquistPoint {
+        re: re[i],
+        im: im[i],
+        omega: UNREAD,
+    });
+    NyquistData {
+        points: held(points),
+    }
+}
+
+fn held<T: Debug, const N: usize>(points: impl Iterator<Item = T>) -> HVec<T, N> {
     let mut list = HVec::new();
     for point in points {
-        list.push(point).expect("more are refused");
+        list.push(point).expect("there is room");
     }
     list
 }
@@ -601,31 +616,35 @@ fn short_pad(random: &mut Random) -> usize {
     random.below(40).saturating_sub(34) as usize
 }
 
+/// Styles of frequencies.
+pub const FREQUENCIES: [Style; 9] = [
+    rising,
+    falling_frequencies,
+    unsorted,
+    repeated,
+    next_to_each_other,
+    with_specials,
+    special,
+    huge,
+    uniform_bits,
+];
+
+/// Styles of levels.
+pub const LEVELS: [Style; 10] = [
+    falling,
+    falling,
+    late,
+    one_sided,
+    swinging,
+    near,
+    with_specials,
+    special,
+    huge,
+    uniform_bits,
+];
+
 /// Readings with every style of frequencies beside every style of levels.
 fn random_sweeps(random: &mut Random) -> Vec<Case> {
-    const FREQUENCIES: [Style; 9] = [
-        rising,
-        falling_frequencies,
-        unsorted,
-        repeated,
-        next_to_each_other,
-        with_specials,
-        special,
-        huge,
-        uniform_bits,
-    ];
-    const LEVELS: [Style; 10] = [
-        falling,
-        falling,
-        late,
-        one_sided,
-        swinging,
-        near,
-        with_specials,
-        special,
-        huge,
-        uniform_bits,
-    ];
     let mut cases = Vec::new();
     for (kind, centre) in [(Bode, HALF_TURN), (Sensitivity, 0.0)] {
         for frequencies in FREQUENCIES {
@@ -648,9 +667,11 @@ fn random_sweeps(random: &mut Random) -> Vec<Case> {
     cases
 }
 
+/// Styles of real and imaginary parts.
+pub const PARTS: [Style; 6] = [swinging, near, with_specials, special, huge, uniform_bits];
+
 /// Points of every class, and points on circles about (-1, 0) and other places.
 fn random_curves(random: &mut Random) -> Vec<Case> {
-    const PARTS: [Style; 6] = [swinging, near, with_specials, special, huge, uniform_bits];
     let mut cases = Vec::new();
     for parts in PARTS {
         for _ in 0..60 {

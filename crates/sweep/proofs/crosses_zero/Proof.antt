@@ -1,0 +1,27 @@
+use mathlib.Core.Path.{_≡_}
+use mathlib.Core.Bool.{Bool, true, false, _&&_, _||_}
+use mathlib.Core.Logic.{inl, inr}
+use borrow.Author.Needs.{needs}
+use Rattle.sweep.proofs.crosses_zero.Statement.{statement}
+use Rattle.sweep.proofs.crosses_zero.Tie as tie
+
+-- two flags of which both hold, or the first fails, or the second
+both : (p q r : Bool) → p ≡ true → q ≡ true → true ≡ ((p && q) || r)
+both p q r h k = rw (h, k)
+
+not-first : (p q r : Bool) → p ≡ false → r ≡ ((p && q) || r)
+not-first p q r h = rw h
+
+not-second : (p q r : Bool) → p ≡ true → q ≡ false → r ≡ ((p && q) || r)
+not-second p q r h k = rw (h, k)
+
+returns : tie.Need-returns
+returns c = both _ _ _ (c .before .if1 .taken) (c .if2 .taken)
+
+returns-2 : tie.Need-returns-2
+returns-2 c = elim (c .if1 .came) [ inl w ↦ not-second _ _ _ (w .0 .taken) (w .1 .left) | inr w ↦ not-first _ _ _ (w .left) ]
+
+pub crosses-zero-spec : {M : Type 1} → statement M
+crosses-zero-spec =
+    tie.close
+    (tie.spec returns returns-2)

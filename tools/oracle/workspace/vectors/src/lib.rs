@@ -1,0 +1,13 @@
+//! What the Rust is asked, what it answers, and the test vectors made of both.
+
+pub mod coefficients;
+pub mod complex;
+pub mod constant;
+pub mod grids;
+pub mod locus;
+pub mod numbers;
+pub mod random;
+pub mod scans;
+pub mod sensitivity;
+pub mod start_table;
+pub mod words;
