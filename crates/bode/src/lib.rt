@@ -1,4 +1,6 @@
-// Scans over a Bode sweep: gain and phase crossover, gain and phase margin.
+// Scans over a Bode sweep: gain and phase crossover, gain and phase margin; and a summary of one that comes in parts.
+mod summary;
+
 ghost use mathlib.Core.Path.{_≡_};
 ghost use mathlib.Core.Bool.{true};
 ghost use Prim.Native.Nat.{_<_};
@@ -9,6 +11,8 @@ ghost use Rattle.sweep.specs.Answer.{outcomeOf, scanned};
 ghost use Rattle.sweep.specs.Scan.{firstPair, at3, scannedBy, crossesBy};
 ghost use Rattle.bode.specs.Bode.{reading, readings, gainBetween, gainPair, phaseBetween, gainCrossover, phaseCrossover, partOfWay, valueAt, gainMarginPair, phaseMarginPair, gainMargin, phaseMargin};
 ghost use Rattle.bode.specs.Readings.{omegas, dbs, phases, scanLength, begun, taken};
+pub use summary::BodeFed;
+pub use summary::BodeSummary;
 use sweep::Answer;
 use sweep::Check;
 use sweep::Crossing;

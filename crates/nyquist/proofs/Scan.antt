@@ -17,14 +17,14 @@ use Rattle.nyquist.specs.Curve.{points, pointSquare, leastSquare, infini
 
 module _ (re im : List Float) where
   -- the points from place i on
-  abbrev rest : ℕ → List Complex
+  abbrev pub rest : ℕ → List Complex
   rest i = points (drop i re) (drop i im)
 
-  rest-more : (i : ℕ) → i < length re → i < length im → rest i ≡ newOf (getD re i nan) (getD im i nan) ∷ rest (i + 1)
+  pub rest-more : (i : ℕ) → i < length re → i < length im → rest i ≡ newOf (getD re i nan) (getD im i nan) ∷ rest (i + 1)
   unfolding points
   rest-more i h k = rw (add-one, drop-cons re i nan, drop-cons im i nan)
 
-  rest-none : (i : ℕ) → length re ≤ i → rest i ≡ []
+  pub rest-none : (i : ℕ) → length re ≤ i → rest i ≡ []
   unfolding points
   rest-none i h = rw (drop-of-length-le re h)
 

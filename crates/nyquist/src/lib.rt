@@ -1,5 +1,7 @@
-// How near a curve comes to the critical point (-1, 0), and the grid of frequencies.
+// How near a curve comes to the critical point (-1, 0), a summary of one that comes in parts, and the grid of
+// frequencies.
 mod frequency;
+mod summary;
 
 ghost use mathlib.Core.Path.{_≡_};
 ghost use lib.ListN.{length};
@@ -7,6 +9,8 @@ ghost use Rattle.complex.specs.Complex.{newOf};
 ghost use Rattle.sweep.specs.Answer.{outcomeOf};
 ghost use Rattle.nyquist.specs.Curve.{points, pointSquare, leastSquare, orZero, distanceOutcome};
 pub use frequency::fill_frequency_grid;
+pub use summary::CurveFed;
+pub use summary::CurveSummary;
 use sweep::Answer;
 use sweep::Check;
 

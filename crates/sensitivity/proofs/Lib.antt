@@ -1,1 +1,4 @@
 pub mod Levels
+pub mod Cuts
+pub mod Joins
+pub mod Runs

@@ -1,15 +1,19 @@
 // The responses of a unity-feedback loop at a frequency, loop gain L, sensitivity S, complementary sensitivity T
-// and control sensitivity Q; and the scans over a sweep of S and T.
+// and control sensitivity Q; the scans over a sweep of S and T; and a summary of one that comes in parts.
+mod summary;
+
 ghost use mathlib.Core.Path.{_≡_};
 ghost use Prim.Native.Nat.{_-_, _<_};
 ghost use lib.ListN.{length};
 ghost use Rattle.sweep.specs.Refusal.{SameLength};
 ghost use Rattle.sweep.specs.Answer as answer;
-ghost use Rattle.sweep.specs.Scan.{firstWhere, at3, zip3, scannedBy};
+ghost use Rattle.sweep.specs.Scan.{firstWhere, firstPair, at3, zip3, scannedBy};
 ghost use Rattle.transfer_fn.specs.Evaluation.{outcomeOf};
 ghost use Rattle.sensitivity.specs.Responses.{loopGain, onePlus, sensitivity, compSensitivity, controlSensitivity, responseBy};
-ghost use Rattle.sensitivity.specs.Scans.{reading, difference, equalBetween, sensitivityCrossover, equalAt, levelAt, dropBetween, bandwidthOf};
+ghost use Rattle.sensitivity.specs.Scans.{reading, difference, equalBetween, sensitivityCrossover, equalAt, levelAt, dropBetween, dropPair, bandwidthOf};
 use complex::Complex;
+pub use summary::SensitivityFed;
+pub use summary::SensitivitySummary;
 use sweep::Answer;
 use sweep::Check;
 use sweep::Crossing;
@@ -182,12 +186,11 @@ fn level_of(t: &[f64]) -> f64
     t[0] - 3.0
 }
 
-// The first drop of T by 3 dB.
-fn drop_crossing(omega: &[f64], s: &[f64], t: &[f64]) -> Crossing
+// The first drop of T below the level.
+fn drop_below(level: f64, omega: &[f64], s: &[f64], t: &[f64]) -> Crossing
     requires { ⌜ SameLength (now omega) (now s) (now t) ⌝ }
-    ensures { λ r. ⌜ r ≡ bandwidthOf (zip3 reading (now (omega .entry)) (now (s .entry)) (now (t .entry))) ⌝ }
+    ensures { λ r. ⌜ r ≡ firstPair (dropPair level) (zip3 reading (now (omega .entry)) (now (s .entry)) (now (t .entry))) ⌝ }
 {
-    let level = level_of(t);
     let i = sweep::first_index(Sought::Drop(level), t);
     if sweep::has_pair(i, t.len()) {
         let a = reading_at(omega, s, t, i);
@@ -195,6 +198,14 @@ fn drop_crossing(omega: &[f64], s: &[f64], t: &[f64]) -> Crossing
         return Crossing::At(drop_between(level, a, b));
     }
     Crossing::Missing
+}
+
+// The first drop of T by 3 dB.
+fn drop_crossing(omega: &[f64], s: &[f64], t: &[f64]) -> Crossing
+    requires { ⌜ SameLength (now omega) (now s) (now t) ⌝ }
+    ensures { λ r. ⌜ r ≡ bandwidthOf (zip3 reading (now (omega .entry)) (now (s .entry)) (now (t .entry))) ⌝ }
+{
+    drop_below(level_of(t), omega, s, t)
 }
 
 // The frequency where |S| and |T| are first equal.

@@ -31,7 +31,7 @@ outcome-known (answer.Refused e) (answer.Found y) h = absurd (apart (sym h) (num
 outcome-known (answer.Refused e) answer.Absent h = absurd (apart h (number-below e))
 outcome-known (answer.Refused e) (answer.Refused f) h = ap answer.Refused (number-known e f (ap (λ (o : Outcome). o .number) h))
 
-not-zero : (e : FreqError) → numberOf e ≡ 0 → ⊥
+pub not-zero : (e : FreqError) → numberOf e ≡ 0 → ⊥
 not-zero e h = let p = number-above e in omega arith
 
 -- ---- the outcome of a scan whose conditions gave n

@@ -10,6 +10,9 @@ use borrow.Author.Tests.{lt-ltb, le-ltb}
 use lib.Dec.{ltb}
 use lib.ListN.{length, getD}
 use lib.Ieee.{Float, nan}
+use Rattle.laws.specs.Outcome.{none}
+use Rattle.laws.proofs.Outcome.{apart}
+use Rattle.sweep.specs.Answer.{crossingOutcome, notKept, keptOutcome, keptOf, orKept}
 use Rattle.sweep.specs.Scan.{orElse, firstFrom, firstPair, lastOf, crossIf, zip3, at3, firstWhere}
 use Rattle.sweep.proofs.Search.{both-more}
 use Rattle.sweep.specs.declared.Crossing.{Crossing}
@@ -23,6 +26,24 @@ pub orElse-missing : (a : Crossing) → orElse a Missing ≡ a
 orElse-missing (At w) = refl
 orElse-missing Missing = refl
 
+-- ---- crossings that are kept
+
+pub kept-outcome : (c : Crossing) → keptOutcome (keptOf c) ≡ crossingOutcome c
+unfolding keptOutcome keptOf crossingOutcome
+kept-outcome (At w) = refl
+kept-outcome Missing = refl
+
+pub kept-or : (a b : Crossing) → orKept (keptOf a) b ≡ keptOf (orElse a b)
+unfolding orKept keptOf
+kept-or (At w) b = refl
+kept-or Missing b = refl
+
+-- a crossing is never "not kept"
+pub crossing-kept : (c : Crossing) → crossingOutcome c ≡ notKept → ⊥
+unfolding crossingOutcome
+crossing-kept (At w) h = apart h (omega arith)
+crossing-kept Missing h = apart h (omega arith)
+
 -- ---- one list behind another
 module _ {R : Type 0} where
   pub last-append : (x : R) (xs ys : List R) → lastOf x (xs ++ ys) ≡ lastOf (lastOf x xs) ys
@@ -33,6 +54,11 @@ module _ {R : Type 0} where
   first-append p x [] ys = refl
   first-append p x (y ∷ xs) ys =
       ap (orElse (p x y)) (first-append p y xs ys) ∙ sym (orElse-assoc (p x y) (firstFrom p y xs) (firstFrom p (lastOf y xs) ys))
+
+  -- the last of a list by its place
+  pub last-at : (other x : R) (xs : List R) → lastOf x xs ≡ getD (x ∷ xs) (length xs) other
+  last-at other x [] = refl
+  last-at other x (y ∷ xs) = last-at other y xs
 
 -- ---- "none" exactly where no two neighbours cross
 
@@ -45,7 +71,7 @@ right-missing (At w) b h = cc
 right-missing Missing b h = h
 
 -- x and y stand next to each other in l
-pub Neighbours : {R : Type 0} → List R → R → R → Type 0
+unfoldable pub Neighbours : {R : Type 0} → List R → R → R → Type 0
 Neighbours l x y = (before : List _) × (after : List _) × (l ≡ before ++ (x ∷ y ∷ after))
 
 module _ {R : Type 0} (p : R → R → Crossing) where
@@ -67,6 +93,28 @@ module _ {R : Type 0} (p : R → R → Crossing) where
   none-crosses-missing (x ∷ y ∷ l) h =
       let e : p x y ≡ Missing = h x y ([], l, refl) in
       rw e (none-crosses-missing (y ∷ l) (λ v w n. h v w (x ∷ n .0, n .1, ap (λ (k : List R). x ∷ k) (n .2))))
+
+-- what a crossing says in numbers: "none" only where it is missing
+pub none-missing : (c : Crossing) → crossingOutcome c ≡ none → c ≡ Missing
+unfolding crossingOutcome
+none-missing (At w) h = absurd (apart h (omega arith))
+none-missing Missing h = refl
+
+pub missing-none : {c : Crossing} → c ≡ Missing → crossingOutcome c ≡ none
+unfolding crossingOutcome
+missing-none h = rw h
+
+not-crossing : (b : Bool) (w : Float) → crossIf b w ≡ Missing → b ≡ false
+not-crossing true w h = cc
+not-crossing false w h = refl
+
+-- A scan says "none" exactly when no two neighbours cross, p being a test and where two that pass it cross.
+module _ {R : Type 0} (test : R → R → Bool) (value : R → R → Float) (p : R → R → Crossing) (said : (x y : R) → p x y ≡ crossIf (test x y) (value x y)) (l : List R) where
+  pub none-crosses : crossingOutcome (firstPair p l) ≡ none → (x y : R) → Neighbours l x y → test x y ≡ false
+  none-crosses h x y n = not-crossing (test x y) (value x y) (sym (said x y) ∙ missing-crosses-none p l (none-missing (firstPair p l) h) x y n)
+
+  pub crosses-none : ((x y : R) → Neighbours l x y → test x y ≡ false) → crossingOutcome (firstPair p l) ≡ none
+  crosses-none h = missing-none (none-crosses-missing p l (λ x y n. said x y ∙ ap (λ (b : Bool). crossIf b (value x y)) (h x y n)))
 
 -- ---- the place of the first pair. The answer is what the first pair that crosses says: test k is whether the readings at k and k + 1 cross, and value k where.
 module _ {R : Type 0} (p : R → R → Crossing) (other : R) (test : ℕ → Bool) (value : ℕ → Float) where

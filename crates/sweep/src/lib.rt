@@ -4,7 +4,7 @@ ghost use mathlib.Core.Path.{_≡_};
 ghost use Prim.Native.Nat.{_+_};
 ghost use lib.Dec.{ltb};
 ghost use Rattle.sweep.specs.Refusal.{numberOf, refusalOf, scanRefusal, listsRefusal, gridRefusal};
-ghost use Rattle.sweep.specs.Answer.{outcomeOf, crossingOutcome};
+ghost use Rattle.sweep.specs.Answer.{outcomeOf, crossingOutcome, keptOf};
 ghost use Rattle.sweep.specs.Scan.{orElse, crossesBy, between, firstIndex};
 ghost use Rattle.sweep.specs.declared.Sought.the-variants.{Zero};
 
@@ -116,6 +116,23 @@ pub fn found(crossing: Crossing) -> Answer
     match crossing {
         Crossing::At(x) => Answer::Found(x),
         Crossing::Missing => Answer::Absent,
+    }
+}
+
+// What a summary answers where a join makes it forget the crossing.
+pub enum Kept {
+    Found(f64),
+    Absent,
+    NotKept,
+}
+
+// A crossing that is kept.
+pub fn kept_of(crossing: Crossing) -> Kept
+    ensures { λ r. ⌜ r ≡ keptOf crossing ⌝ }
+{
+    match crossing {
+        Crossing::At(x) => Kept::Found(x),
+        Crossing::Missing => Kept::Absent,
     }
 }
 

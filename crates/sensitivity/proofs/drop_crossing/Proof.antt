@@ -1,52 +1,19 @@
-use Prim.Native.Nat.{_+_, _<_}
-use mathlib.Core.Path.{refl, sym, ap, _∙_}
-use native.Mathlib.Omega.{arith}
+use mathlib.Core.Path.{sym, ap, _∙_}
 use borrow.Author.Needs.{needs}
-use borrow.Author.Tests.{ltb-true, ltb-false}
-use lib.ListN.{length}
 use lib.Ieee.{Float}
-use Rattle.sweep.specs.Scan.{firstPair, zip3, crossesAt, firstIndex}
-use Rattle.sweep.specs.declared.Sought.the-variants.{Drop}
-use Rattle.sweep.proofs.Scans.{scan-found, scan-missing}
-use Rattle.sensitivity.specs.Scans.{reading, dropPair, dropBetween, bandwidthOf}
+use Rattle.sweep.specs.Scan.{firstPair, zip3}
+use Rattle.sensitivity.specs.Scans.{reading, dropPair, bandwidthOf}
 use Rattle.sensitivity.proofs.Levels.{level-of-lists}
 use Rattle.sensitivity.proofs.drop_crossing.Statement.{statement}
 use Rattle.sensitivity.proofs.drop_crossing.Tie as tie
 
-pair : (c : tie.Then1) → c .before .before .first-index .result + 1 < length (c .before .before .before .before .before .before .before .args .t .now)
-pair c = ltb-true _ _ (sym (c .before .has-pair .ensures) ∙ c .if1 .taken)
-
 returns : tie.Need-returns
-unfolding bandwidthOf dropPair firstIndex
+unfolding bandwidthOf
 returns c =
-    let then = c .before .before .before in
-    let start = then .before .before .before .before .before .before .before in
-    let same = start .pre in
-    let level = then .before .before .before .level-of .result in
-    scan-found reading (dropPair level) (crossesAt (Drop level) (start .args .t .now)) (dropBetween level) (start .args .omega .now) (start .args .s .now) (start .args .t .now)
-    (length (start .args .t .now)) (sym (same .third)) (same .second ∙ sym (same .third)) refl (λ k. refl)
-    (then .before .before .first-index .ensures) (pair then) (c .before .before .reading-at .ensures) (c .before .reading-at2 .ensures) (c .drop-between .ensures) ∙ ap (λ (x : Float). firstPair (dropPair x) (zip3 reading (start .args .omega .now) (start .args .s .now) (start .args .t .now))) (then .before .before .before .level-of .ensures ∙ sym (level-of-lists _ _ _ same))
-
-returns-2 : tie.Need-returns-2
-unfolding bandwidthOf dropPair firstIndex
-returns-2 c =
-    let start = c .before .before .before .before .before .before .before in
-    let same = start .pre in
-    let level = c .before .before .before .level-of .result in
-    scan-missing reading (dropPair level) (crossesAt (Drop level) (start .args .t .now)) (dropBetween level) (start .args .omega .now) (start .args .s .now) (start .args .t .now)
-    (length (start .args .t .now)) (sym (same .third)) (same .second ∙ sym (same .third)) refl (λ k. refl)
-    (c .before .before .first-index .ensures) (ltb-false _ _ (sym (c .before .has-pair .ensures) ∙ c .if1 .left)) ∙ ap (λ (x : Float). firstPair (dropPair x) (zip3 reading (start .args .omega .now) (start .args .s .now) (start .args .t .now))) (c .before .before .before .level-of .ensures ∙ sym (level-of-lists _ _ _ same))
+    let start = c .before .before .before .before .before in
+    let readings = zip3 reading (start .args .omega .now) (start .args .s .now) (start .args .t .now) in
+    c .drop-below .ensures
+    ∙ ap (λ (x : Float). firstPair (dropPair x) readings) (c .before .level-of .ensures ∙ sym (level-of-lists _ _ _ (start .pre)))
 
 pub drop-crossing-spec : {M : Type 1} → statement M
-drop-crossing-spec =
-    tie.close
-    (tie.spec
-    (λ c κs. search needs)
-    (λ c κs. search needs)
-    (λ c κs. search needs)
-    (λ c κs. omega (arith, pair c))
-    (λ c. omega (arith, pair (c .before)))
-    (λ c κs. omega (arith, pair (c .before)))
-    (λ c κs. search needs)
-    returns
-    returns-2)
+drop-crossing-spec = tie.close (tie.spec (λ c κs. search needs) (λ c κs. search needs) returns)

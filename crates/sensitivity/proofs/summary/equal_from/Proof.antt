@@ -1,0 +1,16 @@
+use borrow.Author.Needs.{needs}
+use Rattle.sensitivity.proofs.summary.equal_from.Statement.{statement}
+use Rattle.sensitivity.proofs.summary.equal_from.Tie as tie
+
+returns-2 : tie.Need-returns-2
+returns-2 c = simp (c .before .enum-told2 .given .1, c .equal-crossing .ensures)
+
+pub equal-from-spec : {M : Type 1} → statement M
+equal-from-spec =
+    tie.close
+    (tie.spec
+    (λ c. search needs)
+    (λ c. search needs)
+    (λ c κs. search needs)
+    (λ c. search needs)
+    returns-2)
