@@ -73,16 +73,6 @@ fn cut_between(earlier: Ends, later: Ends) -> Ends
     }
 }
 
-// The crossing of 0 dB between two neighbours.
-fn gain_pair(a: Reading, b: Reading) -> Crossing
-    ensures { λ r. ⌜ r ≡ gainPair a b ⌝ }
-{
-    if sweep::crosses(Sought::Zero, a.db, b.db) {
-        return Crossing::At(super::gain_between(a, b));
-    }
-    Crossing::Missing
-}
-
 // The crossing of -180 degrees between two neighbours.
 fn phase_pair(a: Reading, b: Reading) -> Crossing
     ensures { λ r. ⌜ r ≡ phasePair a b ⌝ }
@@ -98,7 +88,7 @@ fn gain_at(cut: Ends) -> Crossing
 {
     match cut {
         Ends::Nothing => Crossing::Missing,
-        Ends::Between(a, b) => gain_pair(a, b),
+        Ends::Between(a, b) => super::gain_pair(a, b),
     }
 }
 

@@ -58,12 +58,7 @@ between w0 w1 rise span =
 
 -- ---- lists of numbers as readings
 
--- the readings of two and of three lists, as far as the shortest goes: f makes one
-abbrev pub zip2 : {R : Type 0} → (Float → Float → R) → List Float → List Float → List R
-zip2 f [] ys = []
-zip2 f (x ∷ xs) [] = []
-zip2 f (x ∷ xs) (y ∷ ys) = f x y ∷ zip2 f xs ys
-
+-- the readings of three lists, as far as the shortest goes: f makes one
 abbrev pub zip3 : {R : Type 0} → (Float → Float → Float → R) → List Float → List Float → List Float → List R
 zip3 f [] ys zs = []
 zip3 f (x ∷ xs) [] zs = []
