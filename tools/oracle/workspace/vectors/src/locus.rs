@@ -11,6 +11,7 @@ use crate::words::{expected_bits, Words};
 use heapless::Vec as HVec;
 use oxictl::core::frequency_domain::{compute_root_locus, stability_region, Complex};
 use oxictl_inner::core::frequency_domain::root_locus::call_compute_closed_loop_poles;
+use std::io::{self, Write};
 
 /// The words that a case of each kind starts with.
 const POINT: u64 = 1;
@@ -176,6 +177,19 @@ pub fn vectors() -> Words {
     words
 }
 
+/// Writes so many random points, of orders 1 to 8.
+pub fn write_points(to: &mut impl Write, count: u64, seed: u64) -> io::Result<()> {
+    let random = &mut Random::new(seed);
+    for _ in 0..count {
+        let order = 1 + random.below(MAX_ORDER);
+        let kind = random.pick(&KINDS);
+        let mut words = Words::default();
+        write_point(&mut words, &random_point(random, order, kind));
+        to.write_all(words.bytes())?;
+    }
+    Ok(())
+}
+
 fn write_point(words: &mut Words, point: &Point) {
     words.word(POINT);
     words.arguments(&[point.k_max]);
@@ -245,19 +259,38 @@ fn place(random: &mut Random) -> (u64, u64) {
     (n, random.pick(&[0, n - 1, any, any, any]))
 }
 
+/// Kinds of coefficients, above all those with which the search converges.
+const KINDS: [Kind; 9] = [
+    stable,
+    stable,
+    stable,
+    moderate,
+    moderate,
+    moderate,
+    mixed,
+    special,
+    uniform_bits,
+];
+
+/// A point of this order with coefficients of this kind.
+fn random_point(random: &mut Random, order: u64, kind: Kind) -> Point {
+    let [near_one, any] = [
+        random.between(0.0, 10.0),
+        random.with_exponent(-40, 40).abs(),
+    ];
+    let k_max = random.pick(&[near_one, near_one, any]);
+    let function = Coefficients::random(random, order, kind);
+    let (n, i) = place(random);
+    Point {
+        k_max,
+        function,
+        n,
+        i,
+    }
+}
+
 /// Every order with every kind of coefficients, above all those that need the search.
 fn random_points(random: &mut Random) -> Vec<Point> {
-    const KINDS: [Kind; 9] = [
-        stable,
-        stable,
-        stable,
-        moderate,
-        moderate,
-        moderate,
-        mixed,
-        special,
-        uniform_bits,
-    ];
     let mut points = Vec::new();
     for order in 1..=MAX_ORDER {
         let count = match order {
@@ -268,19 +301,7 @@ fn random_points(random: &mut Random) -> Vec<Point> {
         };
         for kind in KINDS {
             for _ in 0..count {
-                let [near_one, any] = [
-                    random.between(0.0, 10.0),
-                    random.with_exponent(-40, 40).abs(),
-                ];
-                let k_max = random.pick(&[near_one, near_one, any]);
-                let function = Coefficients::random(random, order, kind);
-                let (n, i) = place(random);
-                points.push(Point {
-                    k_max,
-                    function,
-                    n,
-                    i,
-                });
+                points.push(random_point(random, order, kind));
             }
         }
     }

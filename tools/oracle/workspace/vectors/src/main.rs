@@ -1,17 +1,33 @@
 //! Makes the test vectors by asking the Rust. `vectors FOLDER` writes FOLDER/NAME/stdin for each
 //! file and prints how many cases of each kind it holds. README.md gives the formats.
-//! `vectors start-table` prints the starting points of the root search instead.
+//! `vectors start-table` prints the starting points of the root search instead, and
+//! `vectors points COUNT SEED` writes so many random points of the locus to standard output.
 
+use std::io::Write;
 use std::path::Path;
 use std::{env, fs, io};
 use vectors::{complex, grids, locus, scans, sensitivity, start_table};
 
 fn main() -> io::Result<()> {
-    let folder = env::args_os().nth(1).expect("usage: vectors FOLDER");
-    if folder == "start-table" {
-        print!("{}", start_table::lines());
-        return Ok(());
+    let words: Vec<_> = env::args().skip(1).collect();
+    let words: Vec<_> = words.iter().map(String::as_str).collect();
+    match words[..] {
+        ["start-table"] => {
+            print!("{}", start_table::lines());
+            Ok(())
+        }
+        ["points", count, seed] => {
+            let number = |word: &str| word.parse().expect("a number");
+            let to = &mut io::BufWriter::new(io::stdout().lock());
+            locus::write_points(to, number(count), number(seed))?;
+            to.flush()
+        }
+        [folder] => write_files(folder),
+        _ => panic!("usage: vectors FOLDER | start-table | points COUNT SEED"),
     }
+}
+
+fn write_files(folder: &str) -> io::Result<()> {
     let files = [
         ("replay_complex", complex::vectors()),
         ("replay_sensitivity", sensitivity::vectors()),
