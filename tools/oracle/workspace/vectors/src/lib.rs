@@ -10,4 +10,5 @@ pub mod random;
 pub mod scans;
 pub mod sensitivity;
 pub mod start_table;
+pub mod summaries;
 pub mod words;

@@ -6,7 +6,7 @@
 use std::io::Write;
 use std::path::Path;
 use std::{env, fs, io};
-use vectors::{complex, grids, locus, scans, sensitivity, start_table};
+use vectors::{complex, grids, locus, scans, sensitivity, start_table, summaries};
 
 fn main() -> io::Result<()> {
     let words: Vec<_> = env::args().skip(1).collect();
@@ -34,6 +34,7 @@ fn write_files(folder: &str) -> io::Result<()> {
         ("replay_scans", scans::vectors()),
         ("replay_grids", grids::vectors()),
         ("replay_locus", locus::vectors()),
+        ("replay_summaries", summaries::vectors()),
     ];
     for (name, words) in files {
         let folder = Path::new(&folder).join(name);

@@ -6,6 +6,8 @@ use oxictl::core::frequency_domain::FreqError;
 pub const VALUE: u64 = 0;
 /// The number of an answer that is none.
 pub const NONE: u64 = 100;
+/// The number of an answer that a summary does not keep.
+pub const NOT_KEPT: u64 = 101;
 /// Stands where there is no answer, as there was no question. Document 01 does not have it.
 pub const NOT_ASKED: u64 = 255;
 

@@ -29,7 +29,7 @@ pub type Answer = Result<Option<f64>, u64>;
 pub type Style = fn(&mut Random, usize, f64) -> Vec<f64>;
 
 #[derive(Clone, Copy, Debug)]
-enum Kind {
+pub enum Kind {
     /// ω, dB, phase.
     Bode = 1,
     /// ω, S, T.
@@ -39,7 +39,7 @@ enum Kind {
 }
 
 impl Kind {
-    fn lists(self) -> usize {
+    pub fn lists(self) -> usize {
         match self {
             Bode | Sensitivity => 3,
             Curve => 2,
@@ -119,7 +119,7 @@ fn write(words: &mut Words, case: &Case) {
     words.count(format!("{:?}: {}", case.kind, numbers.join(" ")));
 }
 
-fn number(answer: Answer) -> u64 {
+pub fn number(answer: Answer) -> u64 {
     match answer {
         Ok(Some(_)) => VALUE,
         Ok(None) => NONE,
@@ -601,7 +601,7 @@ fn curve_edges(random: &mut Random) -> Vec<Case> {
 }
 
 /// Mostly a few readings.
-fn length(random: &mut Random) -> usize {
+pub fn length(random: &mut Random) -> usize {
     let (least, spread) = match random.below(10) {
         0 => (0, 3),
         1..=6 => (2, 5),

@@ -25,6 +25,11 @@ impl Words {
     /// An answer's number and its values.
     pub fn answer(&mut self, number: u64, values: &[f64]) {
         self.word(number);
+        self.values(values);
+    }
+
+    /// The values of an answer without a number.
+    pub fn values(&mut self, values: &[f64]) {
         for &value in values {
             self.word(expected_bits(value));
         }
