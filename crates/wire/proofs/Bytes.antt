@@ -1,8 +1,8 @@
 -- Numbers in bytes, one part behind another. Assumes nothing.
 use Prim.Native.Nat.{ℕ, zero, suc, _+_, _*_, _^_}
-use mathlib.Core.Path.{_≡_, refl, sym, _∙_, ap}
+use mathlib.Core.Path.{_≡_, sym, _∙_, ap}
 use mathlib.Core.List.{List}
-use native.Mathlib.Nat.{add-suc, suc-add, zero-add, add-zero, mul-add, mul-assoc, pow-succ', one-mul}
+use native.Mathlib.Nat.{add-suc, suc-add, zero-add, add-zero, mul-assoc, pow-succ', one-mul}
 use native.Mathlib.Omega.{arith}
 use lib.ListN.{getD}
 use Rattle.wire.specs.Bytes.{littleEndian}

@@ -1,5 +1,4 @@
 use Prim.Native.Nat.{_≤_, _-_}
-use mathlib.Core.Path.{_≡_}
 use borrow.Author.Needs.{needs}
 use Rattle.replay_locus.proofs.next_are.Statement.{statement}
 use Rattle.replay_locus.proofs.next_are.Tie as tie

@@ -1,7 +1,6 @@
 use mathlib.Core.Path.{_≡_}
 use mathlib.Core.Bool.{Bool, true, false, _&&_, _||_}
 use mathlib.Core.Logic.{inl, inr}
-use borrow.Author.Needs.{needs}
 use Rattle.sweep.proofs.crosses_zero.Statement.{statement}
 use Rattle.sweep.proofs.crosses_zero.Tie as tie
 
