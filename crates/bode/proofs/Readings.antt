@@ -13,7 +13,7 @@ use lib.Seq.{take-length, slice, slice-empty, slice-cons}
 use Rattle.laws.specs.Outcome.{when}
 use Rattle.laws.proofs.Order.{le-of-lt, not-le-of-lt}
 use Rattle.scalar.specs.Scalar.{f0}
-use Rattle.sweep.specs.Refusal.{scanRefusal, listsRefusal, SameLength}
+use Rattle.sweep.specs.Refusal.{scanRefusal, listsRefusal}
 use Rattle.sweep.specs.Answer.{scanned}
 use Rattle.sweep.specs.Scan.{orElse, firstFrom, crossIf, crossesBy, scannedBy}
 use Rattle.sweep.specs.declared.Crossing.{Crossing}
@@ -29,9 +29,6 @@ use Rattle.bode.specs.declared.GainScan.{GainScan}
 pub readings-back : (rs : List Reading) → readings (omegas rs) (dbs rs) (phases rs) ≡ rs
 readings-back [] = refl
 readings-back (r ∷ rs) = ap (λ (l : List Reading). r ∷ l) (readings-back rs)
-
-pub lists-same : (rs : List Reading) → SameLength (omegas rs) (dbs rs) (phases rs)
-lists-same rs = record { second = rw (length-map, length-map); third = rw (length-map, length-map) }
 
 -- so a slice is refused for its length alone, with 15
 pub lists-refused : (rs : List Reading) → listsRefusal (omegas rs) (dbs rs) (phases rs) ≡ when (ltb 4096 (length rs)) 15 0

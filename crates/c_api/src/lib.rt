@@ -1,6 +1,6 @@
 // The library's functions for hosts in C and Rust. A slice crosses as a pointer and a length. An answer that is an
 // enum crosses as document 01's number, 0 for a result, 100 for none, or the refusal, and a place, which is written
-// only on 0. include/bazintroa.h declares them for C.
+// only on 0.
 ghost use mathlib.Core.Path.{_≡_};
 ghost use Rattle.scalar.specs.Scalar.{absOf};
 ghost use Rattle.scalar.specs.Sqrt.{sqrtOf};

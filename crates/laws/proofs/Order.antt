@@ -285,12 +285,6 @@ lt-irrefl x = go (lt x x) refl
     go true e = lt-asym x x e
     go false e = e
 
-pub lt-nan : (x : Float) → lt x nan ≡ false
-unfolding lt
-lt-nan nan = refl
-lt-nan (inf s) = refl
-lt-nan (fin s m e) = refl
-
 -- ---- two values of a format that are above zero, each at most the other, are the same
 
 at-most : (m : ℕ) (e : ℤ) (n : ℕ) (d : ℤ) → T (le (fin false m e) (fin false n d)) → m * up e * down d ≤ n * up d * down e

@@ -15,7 +15,7 @@ use Rattle.scalar.specs.Scalar.{f0}
 use Rattle.scalar.proofs.Monotone.{itself}
 use Rattle.scalar.proofs.Exact.{one-times, zero-times, zero-over, over-itself, whole-positive}
 use Rattle.complex.specs.declared.Complex.{Complex}
-use Rattle.nyquist.specs.Curve.{pointDistance, largest, leastDistance, orZero, distanceOf, pointSquare, infinity, leastSquare}
+use Rattle.nyquist.specs.Curve.{pointDistance, largest, leastDistance, orZero, distanceOf}
 use Rattle.nyquist.specs.Frequency.{frequencyAt}
 
 -- ---- the distance
@@ -43,11 +43,6 @@ distance-passes l z k h = ap orZero (least-passes itself pointDistance largest l
 pub none-nearer : (l : List Complex) (z : Complex) (k : List Complex) → lt (pointDistance z) (leastDistance (l ++ z ∷ k)) ≡ false
 unfolding leastDistance
 none-nearer l z k = least-not-above itself pointDistance largest largest-number l z k
-
--- the same of the squares
-pub square-append : (l k : List Complex) → leastSquare (l ++ k) ≡ lesser itself (leastSquare l) (leastSquare k)
-unfolding leastSquare
-square-append l k = least-append itself pointSquare infinity (unfold ofBits in tt) l k
 
 -- ---- the frequencies up to a finite top above 0: the first is +0, the last the top itself
 module _ (top : Float) (p : T (positive top)) (n : ℕ) (two : 2 ≤ n) (most : n ≤ 4096) where

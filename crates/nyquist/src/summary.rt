@@ -94,7 +94,8 @@ impl CurveSummary {
     // The summary with a part's points behind it, or the refusal; the caller then still has the summary as it came.
     pub fn feed(self, re: &[f64], im: &[f64]) -> CurveFed
         ensures { λ r. ⌜ (numberOfFed r ≡ curveRefusal (now (re .entry)) (now (im .entry)))
-            × (leftBy r self ≡ leftAfter (curveRefusal (now (re .entry)) (now (im .entry))) self (fedBy self (points (now (re .entry)) (now (im .entry))))) ⌝ }
+            × (leftBy r self ≡ leftAfter (curveRefusal (now (re .entry)) (now (im .entry))) self
+            (fedBy self (points (now (re .entry)) (now (im .entry))))) ⌝ }
     {
         let n = re.len();
         match sweep::check_scan(n == im.len(), n) {

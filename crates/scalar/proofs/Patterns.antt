@@ -175,7 +175,3 @@ not-above b h = nltb→le (2047 * 2 ^ 52) (b % 2 ^ 63) (subst (λ (t : Bool). T 
 
 pub no-nan : (b q k : ℕ) → ofBits binary64 b ≡ units binary64 false q k → T (not (nanBits binary64 b))
 no-nan b q k e = subst (λ (t : Bool). T (not t)) (sym (nanBits-is binary64 b ∙ ap isNan e ∙ units-number q k)) tt
-
-pub sqrt-nan : sqrtOf nan ≡ nan
-unfolding sqrtOf
-sqrt-nan = refl

@@ -1,4 +1,4 @@
-//! Compares the port with the Rust in one process, on random calls of every kind. An answer must
+//! Compares the port with the Rust in one process, on random calls of scans and grids. An answer must
 //! have the Rust's bits, where a NaN equals any NaN; a refusal must be document 01's; and a place
 //! that is not written must stay. It ends non-zero on any difference.
 //!
