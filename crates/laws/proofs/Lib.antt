@@ -3,3 +3,4 @@ pub mod Order
 pub mod Choice
 pub mod Outcome
 pub mod Least
+pub mod Tables

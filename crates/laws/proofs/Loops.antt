@@ -2,12 +2,14 @@
 -- A loop's invariant is one of two. `countUp f (d - i) i a ≡ w`: what is left to do gives the whole loop's outcome w; it begins by `up-begin`, goes on by
 -- `up-next` and ends by `up-end`. Or `a ≡ s i`: what is done so far is member i of a sequence s, a filled list or a sum; it ends by `arrived`.
 use mathlib.Core.Path.{_≡_, refl, sym, _∙_}
+use mathlib.Core.Logic.{inl, inr}
 use Prim.Native.Nat.{ℕ, zero, suc, _+_, _-_, _<_, _≤_}
+use native.Mathlib.Nat.{eq-or-lt-of-le}
 use native.Mathlib.Numerals.{add-one}
 use native.Mathlib.Omega.{arith}
 use mathlib.Core.List.{List, [], _∷_, _++_}
-use lib.ListN.{length, set, take, drop, getD, length-append, length-drop}
-use lib.Seq.{set-at, take-at, drop-at, drop-cons, append-snoc}
+use lib.ListN.{length, set, take, drop, getD, length-append, length-drop, List·getD-append}
+use lib.Seq.{set-at, take-at, drop-at, getD-at, drop-cons, append-snoc}
 use Rattle.laws.specs.Loops.{countUp, upTo, filled, pushAll}
 
 module _ {A : Type 0} (f : ℕ → A → A) (d : ℕ) where
@@ -34,6 +36,16 @@ module _ {A : Type 0} (g : ℕ → A) where
   unfolding upTo
   length-upTo zero = refl
   length-upTo (suc n) = simp (length-append, length-upTo n) (omega arith)
+
+  pub upTo-at : (n k : ℕ) (d : A) → k < n → getD (upTo g n) k d ≡ g k
+  unfolding upTo
+  upTo-at zero k d h = absurd (omega arith)
+  upTo-at (suc n) k d h =
+      let m : k ≤ n = omega arith in
+      elim (eq-or-lt-of-le m) [
+        | inl e ↦ rw e (getD-at (upTo g n) (g n) [] d n (length-upTo n))
+        | inr l ↦ List·getD-append (upTo g n) (g n ∷ []) d k (rw (length-upTo n) l) ∙ upTo-at n k d l
+      ]
 
   module _ (l : List A) where
     pub filled-none : l ≡ filled g l 0

@@ -1,3 +1,4 @@
 pub mod Loops
 pub mod Choice
 pub mod Outcome
+pub mod Tables

@@ -5,3 +5,4 @@ pub mod Scans
 pub mod Conditions
 pub mod Grids
 pub mod Runs
+pub mod Plain

@@ -169,17 +169,27 @@ module _ {R : Type 0} (f : Float → Float → Float → R) where
       let other = f nan nan nan in
       rw e at (pair-place p other test value l (λ k h. rw (zip3-at other xs ys zs k (omega arith), zip3-at other xs ys zs (k + 1) h) (said k)))
 
--- ---- What a program that found the place answers: test k is whether the pair at k has what is sought, value a b what two such neighbours answer.
+-- ---- What a program that found the place answers, of n readings.
+module _ {R : Type 0} (p : R → R → Crossing) (l : List R) (n : ℕ) (test : ℕ → Bool) (value : ℕ → Float)
+    (is : firstPair p l ≡ crossIf (ltb (firstWhere test (n - 1) 0 + 1) n) (value (firstWhere test (n - 1) 0))) where
+  pub place-found : {i : ℕ} {v : Float} → i ≡ firstWhere test (n - 1) 0 → i + 1 < n → v ≡ value i → At v ≡ firstPair p l
+  place-found {i} {v} e h ev = sym (is ∙ (rw (← e) (rw (lt-ltb (i + 1) n h, ev))))
+
+  pub place-missing : {i : ℕ} → i ≡ firstWhere test (n - 1) 0 → n ≤ i + 1 → Missing ≡ firstPair p l
+  place-missing {i} e h = sym (is ∙ (rw (← e) (rw (le-ltb (i + 1) n h))))
+
+-- The same of the readings of three lists: test k is whether the pair at k has what is sought, value a b what two such neighbours answer.
 module _ {R : Type 0} (f : Float → Float → Float → R) (p : R → R → Crossing) (test : ℕ → Bool) (value : R → R → Float) (xs ys zs : List Float) (n : ℕ)
     (hx : length xs ≡ n) (hy : length ys ≡ n) (hz : length zs ≡ n)
     (said : (k : ℕ) → p (at3 f xs ys zs k) (at3 f xs ys zs (k + 1)) ≡ crossIf (test k) (value (at3 f xs ys zs k) (at3 f xs ys zs (k + 1)))) where
-  scan-is : firstPair p (zip3 f xs ys zs)
-      ≡ crossIf (ltb (firstWhere test (n - 1) 0 + 1) n) (value (at3 f xs ys zs (firstWhere test (n - 1) 0)) (at3 f xs ys zs (firstWhere test (n - 1) 0 + 1)))
-  scan-is = scan3 f p test (λ k. value (at3 f xs ys zs k) (at3 f xs ys zs (k + 1))) xs ys zs n hx hy hz said
+  answerAt : ℕ → Float
+  answerAt k = value (at3 f xs ys zs k) (at3 f xs ys zs (k + 1))
 
   pub scan-found : {i : ℕ} {a b : R} {v : Float} → i ≡ firstWhere test (n - 1) 0 → i + 1 < n → a ≡ at3 f xs ys zs i → b ≡ at3 f xs ys zs (i + 1) → v ≡ value a b
       → At v ≡ firstPair p (zip3 f xs ys zs)
-  scan-found {i} {a} {b} {v} e h ea eb ev = sym (scan-is ∙ (rw (← e) (rw (lt-ltb (i + 1) n h, ev, ea, eb))))
+  unfolding answerAt
+  scan-found e h ea eb ev = place-found p (zip3 f xs ys zs) n test answerAt (scan3 f p test answerAt xs ys zs n hx hy hz said) e h (rw (ev, ea, eb))
 
   pub scan-missing : {i : ℕ} → i ≡ firstWhere test (n - 1) 0 → n ≤ i + 1 → Missing ≡ firstPair p (zip3 f xs ys zs)
-  scan-missing {i} e h = sym (scan-is ∙ (rw (← e) (rw (le-ltb (i + 1) n h))))
+  unfolding answerAt
+  scan-missing e h = place-missing p (zip3 f xs ys zs) n test answerAt (scan3 f p test answerAt xs ys zs n hx hy hz said) e h

@@ -1,4 +1,5 @@
 pub mod Refusal
 pub mod Answer
+pub mod Plain
 pub mod Scan
 pub mod Runs

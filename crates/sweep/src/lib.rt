@@ -5,6 +5,7 @@ ghost use Prim.Native.Nat.{_+_};
 ghost use lib.Dec.{ltb};
 ghost use Rattle.sweep.specs.Refusal.{numberOf, refusalOf, scanRefusal, listsRefusal, gridRefusal};
 ghost use Rattle.sweep.specs.Answer.{outcomeOf, crossingOutcome, keptOf};
+ghost use Rattle.sweep.specs.Plain.{crossingMark, crossingValue, markedCrossing, keptMark, keptValue, markedKept};
 ghost use Rattle.sweep.specs.Scan.{orElse, crossesBy, between, firstIndex};
 ghost use Rattle.sweep.specs.declared.Sought.the-variants.{Zero};
 
@@ -134,6 +135,69 @@ pub fn kept_of(crossing: Crossing) -> Kept
         Crossing::At(x) => Kept::Found(x),
         Crossing::Missing => Kept::Absent,
     }
+}
+
+// A crossing as plain numbers, for a host to keep: 1 and its frequency, or 0 and 0.
+pub fn crossing_mark(crossing: Crossing) -> u32
+    ensures { λ r. ⌜ r ≡ crossingMark crossing ⌝ }
+{
+    match crossing {
+        Crossing::At(_) => 1,
+        Crossing::Missing => 0,
+    }
+}
+
+pub fn crossing_value(crossing: Crossing) -> f64
+    ensures { λ r. ⌜ r ≡ crossingValue crossing ⌝ }
+{
+    match crossing {
+        Crossing::At(x) => x,
+        Crossing::Missing => 0.0,
+    }
+}
+
+// The crossing of such numbers. Any mark but 0 is read as 1.
+pub fn marked_crossing(mark: u32, x: f64) -> Crossing
+    ensures { λ r. ⌜ r ≡ markedCrossing mark x ⌝ }
+{
+    if mark == 0 {
+        return Crossing::Missing;
+    }
+    Crossing::At(x)
+}
+
+// The same of what is kept: 1 and its frequency, 0 where it is absent, 2 where it is not kept.
+pub fn kept_mark(kept: Kept) -> u32
+    ensures { λ r. ⌜ r ≡ keptMark kept ⌝ }
+{
+    match kept {
+        Kept::Found(_) => 1,
+        Kept::Absent => 0,
+        Kept::NotKept => 2,
+    }
+}
+
+pub fn kept_value(kept: Kept) -> f64
+    ensures { λ r. ⌜ r ≡ keptValue kept ⌝ }
+{
+    match kept {
+        Kept::Found(x) => x,
+        Kept::Absent => 0.0,
+        Kept::NotKept => 0.0,
+    }
+}
+
+// Any mark but 0 and 1 is read as 2.
+pub fn marked_kept(mark: u32, x: f64) -> Kept
+    ensures { λ r. ⌜ r ≡ markedKept mark x ⌝ }
+{
+    if mark == 0 {
+        return Kept::Absent;
+    }
+    if mark == 1 {
+        return Kept::Found(x);
+    }
+    Kept::NotKept
 }
 
 // What is sought between the values of two neighbours.
