@@ -3,3 +3,4 @@ pub mod Laws
 pub mod Cuts
 pub mod Joins
 pub mod Runs
+pub mod Plain

@@ -12,6 +12,7 @@ ghost use Rattle.sweep.specs.Scan.{firstPair, at3, scannedBy, crossesBy};
 ghost use Rattle.bode.specs.Bode.{reading, readings, gainBetween, gainPair, phaseBetween, gainCrossover, phaseCrossover, partOfWay, valueAt, gainMarginPair, phaseMarginPair, gainMargin, phaseMargin};
 ghost use Rattle.bode.specs.Readings.{omegas, dbs, phases, scanLength, begun, taken};
 pub use summary::BodeFed;
+pub use summary::BodePlain;
 pub use summary::BodeSummary;
 use sweep::Answer;
 use sweep::Check;
@@ -19,6 +20,7 @@ use sweep::Crossing;
 use sweep::Sought;
 
 // One reading of a sweep: the frequency, the magnitude in decibels and the phase in degrees.
+#[repr(C)]
 pub struct Reading {
     pub omega: f64,
     pub db: f64,
@@ -37,7 +39,7 @@ fn reading_at(omega: &[f64], db: &[f64], phase: &[f64], i: usize) -> Reading
 }
 
 // Where the magnitude is 0 dB on the straight line from a to b.
-fn gain_between(a: Reading, b: Reading) -> f64
+pub fn gain_between(a: Reading, b: Reading) -> f64
     ensures { λ r. ⌜ r ≡ gainBetween a b ⌝ }
 {
     let m0 = a.db;
@@ -46,7 +48,7 @@ fn gain_between(a: Reading, b: Reading) -> f64
 }
 
 // Where the phase is -180 degrees on the straight line from a to b.
-fn phase_between(a: Reading, b: Reading) -> f64
+pub fn phase_between(a: Reading, b: Reading) -> f64
     ensures { λ r. ⌜ r ≡ phaseBetween a b ⌝ }
 {
     let p0 = a.phase;
@@ -198,7 +200,8 @@ struct GainScan {
     end: usize,
 }
 
-// Whether one of two dB values is at or above 0 and the other at or below, told by the second where it is not 0.
+// Whether one of two dB values is at or above 0 and the other at or below, told by the second where it is not 0. A NaN
+// crosses nothing.
 fn crosses_0_db(a: f64, b: f64) -> bool
     ensures { λ r. ⌜ r ≡ crossesBy Zero a b ⌝ }
 {
@@ -207,6 +210,9 @@ fn crosses_0_db(a: f64, b: f64) -> bool
     }
     if b < 0.0 {
         return a >= 0.0;
+    }
+    if b != b {
+        return false;
     }
     sweep::crosses(Sought::Zero, a, b)
 }

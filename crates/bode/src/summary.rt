@@ -8,6 +8,7 @@ ghost use Rattle.sweep.specs.Scan.{orElse};
 ghost use Rattle.sweep.specs.Runs.{leftAfter};
 ghost use Rattle.bode.specs.Bode.{readings, gainPair, phasePair, gainCrossover, phaseCrossover};
 ghost use Rattle.bode.specs.Summary.{endsOf, endsBehind, cutBetween, crossingAt, summaryOf, fedBy, joinOf, numberOfFed, leftBy, gainAnswer, phaseAnswer};
+ghost use Rattle.bode.specs.Plain.{zeroReading, endsMark, firstOf, lastOf, markedEnds, plainOf, fromPlain};
 use super::Reading;
 use sweep::Check;
 use sweep::Crossing;
@@ -25,6 +26,19 @@ pub struct BodeSummary {
     ends: Ends,
     gain: Crossing,
     phase: Crossing,
+}
+
+// The summary as plain numbers, for a host to keep between calls. A mark that is 0 says that there is nothing, and what
+// belongs to it is then 0 too; so all zeros are the summary of no readings.
+#[repr(C)]
+pub struct BodePlain {
+    pub read: u32,
+    pub gain_found: u32,
+    pub phase_found: u32,
+    pub first: Reading,
+    pub last: Reading,
+    pub gain: f64,
+    pub phase: f64,
 }
 
 // What a feed gives: the summary with the part's readings behind it, or the refusal alone.
@@ -123,6 +137,54 @@ fn phase_from(found: Crossing, omega: &[f64], db: &[f64], phase: &[f64]) -> Cros
     }
 }
 
+fn zero_reading() -> Reading
+    ensures { λ r. ⌜ r ≡ zeroReading ⌝ }
+{
+    Reading {
+        omega: 0.0,
+        db: 0.0,
+        phase: 0.0,
+    }
+}
+
+// The ends as plain numbers: a mark, and the two readings.
+fn ends_mark(ends: Ends) -> u32
+    ensures { λ r. ⌜ r ≡ endsMark ends ⌝ }
+{
+    match ends {
+        Ends::Nothing => 0,
+        Ends::Between(_, _) => 1,
+    }
+}
+
+fn first_of(ends: Ends) -> Reading
+    ensures { λ r. ⌜ r ≡ firstOf ends ⌝ }
+{
+    match ends {
+        Ends::Nothing => zero_reading(),
+        Ends::Between(first, _) => first,
+    }
+}
+
+fn last_of(ends: Ends) -> Reading
+    ensures { λ r. ⌜ r ≡ lastOf ends ⌝ }
+{
+    match ends {
+        Ends::Nothing => zero_reading(),
+        Ends::Between(_, last) => last,
+    }
+}
+
+// The ends of such numbers. Any mark but 0 is read as 1.
+fn marked_ends(mark: u32, first: Reading, last: Reading) -> Ends
+    ensures { λ r. ⌜ r ≡ markedEnds mark first last ⌝ }
+{
+    if mark == 0 {
+        return Ends::Nothing;
+    }
+    Ends::Between(first, last)
+}
+
 impl BodeSummary {
     // The summary of no readings.
     pub fn empty() -> BodeSummary
@@ -194,5 +256,34 @@ impl BodeSummary {
         ensures { λ r. ⌜ crossingOutcome r ≡ phaseAnswer self ⌝ }
     {
         self.phase
+    }
+
+    // The summary as plain numbers.
+    pub fn to_plain(self) -> BodePlain
+        ensures { λ r. ⌜ r ≡ plainOf self ⌝ }
+    {
+        let ends = self.ends;
+        let gain = self.gain;
+        let phase = self.phase;
+        BodePlain {
+            read: ends_mark(ends),
+            gain_found: sweep::crossing_mark(gain),
+            phase_found: sweep::crossing_mark(phase),
+            first: first_of(ends),
+            last: last_of(ends),
+            gain: sweep::crossing_value(gain),
+            phase: sweep::crossing_value(phase),
+        }
+    }
+
+    // The summary of plain numbers, whatever they are.
+    pub fn from_plain(plain: BodePlain) -> BodeSummary
+        ensures { λ r. ⌜ r ≡ fromPlain plain ⌝ }
+    {
+        BodeSummary {
+            ends: marked_ends(plain.read, plain.first, plain.last),
+            gain: sweep::marked_crossing(plain.gain_found, plain.gain),
+            phase: sweep::marked_crossing(plain.phase_found, plain.phase),
+        }
     }
 }

@@ -35,7 +35,7 @@ key-least (z ∷ l) n =
     key-least l (lesser keyOf n (Point z))
     ∙ ap (λ (m : Float). leastFrom itself pointSquare m l) (lesser-key keyOf n (Point z) ∙ (unfold keyOf in refl))
 
-key-nearest : (l : List Complex) → keyOf (nearestOf l) ≡ leastSquare l
+pub key-nearest : (l : List Complex) → keyOf (nearestOf l) ≡ leastSquare l
 unfolding nearestOf leastSquare keyOf
 key-nearest l = key-least l Nowhere
 

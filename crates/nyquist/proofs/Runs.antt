@@ -22,8 +22,8 @@ use Rattle.sweep.specs.declared.Check.{Check}
 use Rattle.sweep.specs.declared.Check.the-variants as check
 use Rattle.sweep.proofs.Conditions.{Checked, scan-checked}
 use Rattle.sweep.proofs.Runs.{whole, lent, feed-refused, feed-taken}
-use Rattle.nyquist.specs.Curve.{distanceOf}
-use Rattle.nyquist.specs.Summary.{summaryOf, fedBy, joinOf, approachAnswer, curveRefusal, numberOfFed, leftBy, Part, partRefusal, partPoints, bookOf}
+use Rattle.nyquist.specs.Curve.{distanceOf, curveRefusal}
+use Rattle.nyquist.specs.Summary.{summaryOf, fedBy, joinOf, approachAnswer, numberOfFed, leftBy, Part, partRefusal, partPoints, bookOf}
 use Rattle.nyquist.specs.declared.summary.CurveSummary.{CurveSummary}
 use Rattle.nyquist.specs.declared.summary.CurveFed.{CurveFed}
 use Rattle.nyquist.specs.declared.summary.CurveFed.the-variants.{Taken, Refused}

@@ -1,4 +1,5 @@
 -- A curve, and how near it comes to the critical point (-1, 0). Definitions only.
+use Prim.Native.Nat.{ℕ}
 use mathlib.Core.Bool.{cond}
 use mathlib.Core.List.{List, [], _∷_}
 use lib.Dec.{eqb}
@@ -45,9 +46,13 @@ orZero m = cond (lt halfLargest m) f0 m
 unfoldable pub distanceOf : List Complex → Float
 distanceOf l = orZero (leastDistance l)
 
--- `distance_to_critical`: 11 if the lists differ in length, 15 above 4,096 points, and else the distance
+-- A scan of a curve, or a part fed: 11 if the lists differ in length, 15 above 4,096 points.
+unfoldable pub curveRefusal : List Float → List Float → ℕ
+curveRefusal re im = scanRefusal (eqb (length re) (length im)) (length re)
+
+-- `distance_to_critical`: the refusal, or else the distance
 unfoldable pub distanceOutcome : List Float → List Float → Outcome
-distanceOutcome re im = answered (scanRefusal (eqb (length re) (length im)) (length re)) (distanceOf (points re im) ∷ [])
+distanceOutcome re im = answered (curveRefusal re im) (distanceOf (points re im) ∷ [])
 
 -- ---- what the program keeps in place of distances: their squares, whose root it takes once
 

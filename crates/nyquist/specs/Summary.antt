@@ -2,16 +2,14 @@
 use Prim.Native.Nat.{ℕ}
 use mathlib.Core.Bool.{Bool, false}
 use mathlib.Core.List.{List}
-use lib.Dec.{eqb}
-use lib.ListN.{length}
 use lib.Ieee.{Float}
 use Rattle.laws.specs.Loops.{pushAll}
 use Rattle.laws.specs.Choice.{lesser}
 use Rattle.scalar.specs.Sqrt.{sqrtOf}
 use Rattle.complex.specs.declared.Complex.{Complex}
-use Rattle.sweep.specs.Refusal.{numberOf, scanRefusal}
+use Rattle.sweep.specs.Refusal.{numberOf}
 use Rattle.sweep.specs.Runs.{Calls, book, isTaken}
-use Rattle.nyquist.specs.Curve.{points, pointSquare, infinity, orZero}
+use Rattle.nyquist.specs.Curve.{points, curveRefusal, pointSquare, infinity, orZero}
 use Rattle.nyquist.specs.declared.summary.Nearest.{Nearest}
 use Rattle.nyquist.specs.declared.summary.Nearest.the-variants.{Nowhere, Point}
 use Rattle.nyquist.specs.declared.summary.CurveSummary.{CurveSummary}
@@ -52,10 +50,6 @@ unfoldable pub approachAnswer : CurveSummary → Float
 approachAnswer s = orZero (sqrtOf (keyOf (s .nearest)))
 
 -- ---- in the numbers of document 01
-
--- the number that the conditions of a feed give: 11 if the lists differ in length, 15 above 4,096 points
-unfoldable pub curveRefusal : List Float → List Float → ℕ
-curveRefusal re im = scanRefusal (eqb (length re) (length im)) (length re)
 
 -- the number of a feed: 0 where the part was taken, or the refusal
 unfoldable pub numberOfFed : CurveFed → ℕ

@@ -10,6 +10,7 @@ ghost use Rattle.sweep.specs.Answer.{outcomeOf};
 ghost use Rattle.nyquist.specs.Curve.{points, pointSquare, leastSquare, orZero, distanceOutcome};
 pub use frequency::fill_frequency_grid;
 pub use summary::CurveFed;
+pub use summary::CurvePlain;
 pub use summary::CurveSummary;
 use sweep::Answer;
 use sweep::Check;

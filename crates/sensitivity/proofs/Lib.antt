@@ -2,3 +2,4 @@ pub mod Levels
 pub mod Cuts
 pub mod Joins
 pub mod Runs
+pub mod Plain

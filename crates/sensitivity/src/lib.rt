@@ -13,6 +13,7 @@ ghost use Rattle.sensitivity.specs.Responses.{loopGain, onePlus, sensiti
 ghost use Rattle.sensitivity.specs.Scans.{reading, difference, equalBetween, sensitivityCrossover, equalAt, levelAt, dropBetween, dropPair, bandwidthOf};
 use complex::Complex;
 pub use summary::SensitivityFed;
+pub use summary::SensitivityPlain;
 pub use summary::SensitivitySummary;
 use sweep::Answer;
 use sweep::Check;
@@ -105,6 +106,7 @@ impl LoopShaping {
 }
 
 // One reading of a sweep: the frequency, and S and T in decibels.
+#[repr(C)]
 pub struct Reading {
     pub omega: f64,
     pub s: f64,

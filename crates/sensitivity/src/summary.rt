@@ -9,6 +9,7 @@ ghost use Rattle.sweep.specs.Scan.{orElse, firstPair, zip3};
 ghost use Rattle.sweep.specs.Runs.{leftAfter};
 ghost use Rattle.sensitivity.specs.Scans.{reading, equalPair, dropPair, sensitivityCrossover};
 ghost use Rattle.sensitivity.specs.Summary.{endsOf, endsBehind, cutBetween, crossingAt, levelIn, summaryOf, fedBy, joinOf, numberOfFed, leftBy, crossoverAnswer, bandwidthAnswer};
+ghost use Rattle.sensitivity.specs.Plain.{zeroReading, endsMark, firstOf, lastOf, markedEnds, plainOf, fromPlain};
 use super::Reading;
 use sweep::Check;
 use sweep::Crossing;
@@ -27,6 +28,19 @@ pub struct SensitivitySummary {
     ends: Ends,
     crossover: Crossing,
     bandwidth: Kept,
+}
+
+// The summary as plain numbers, for a host to keep between calls. A mark that is 0 says that there is nothing, and what
+// belongs to it is then 0 too; so all zeros are the summary of no readings. The bandwidth's mark is 2 where it is not kept.
+#[repr(C)]
+pub struct SensitivityPlain {
+    pub read: u32,
+    pub crossover_found: u32,
+    pub bandwidth_kept: u32,
+    pub first: Reading,
+    pub last: Reading,
+    pub crossover: f64,
+    pub bandwidth: f64,
 }
 
 // What a feed gives: the summary with the part's readings behind it, or the refusal alone.
@@ -161,6 +175,54 @@ fn bandwidth_from(kept: Kept, level: f64, cut: Ends, omega: &[f64], s: &[f64], t
     }
 }
 
+fn zero_reading() -> Reading
+    ensures { λ r. ⌜ r ≡ zeroReading ⌝ }
+{
+    Reading {
+        omega: 0.0,
+        s: 0.0,
+        t: 0.0,
+    }
+}
+
+// The ends as plain numbers: a mark, and the two readings.
+fn ends_mark(ends: Ends) -> u32
+    ensures { λ r. ⌜ r ≡ endsMark ends ⌝ }
+{
+    match ends {
+        Ends::Nothing => 0,
+        Ends::Between(_, _) => 1,
+    }
+}
+
+fn first_of(ends: Ends) -> Reading
+    ensures { λ r. ⌜ r ≡ firstOf ends ⌝ }
+{
+    match ends {
+        Ends::Nothing => zero_reading(),
+        Ends::Between(first, _) => first,
+    }
+}
+
+fn last_of(ends: Ends) -> Reading
+    ensures { λ r. ⌜ r ≡ lastOf ends ⌝ }
+{
+    match ends {
+        Ends::Nothing => zero_reading(),
+        Ends::Between(_, last) => last,
+    }
+}
+
+// The ends of such numbers. Any mark but 0 is read as 1.
+fn marked_ends(mark: u32, first: Reading, last: Reading) -> Ends
+    ensures { λ r. ⌜ r ≡ markedEnds mark first last ⌝ }
+{
+    if mark == 0 {
+        return Ends::Nothing;
+    }
+    Ends::Between(first, last)
+}
+
 impl SensitivitySummary {
     // The summary of no readings.
     pub fn empty() -> SensitivitySummary
@@ -231,5 +293,34 @@ impl SensitivitySummary {
         ensures { λ r. ⌜ keptOutcome r ≡ bandwidthAnswer self ⌝ }
     {
         self.bandwidth
+    }
+
+    // The summary as plain numbers.
+    pub fn to_plain(self) -> SensitivityPlain
+        ensures { λ r. ⌜ r ≡ plainOf self ⌝ }
+    {
+        let ends = self.ends;
+        let crossover = self.crossover;
+        let bandwidth = self.bandwidth;
+        SensitivityPlain {
+            read: ends_mark(ends),
+            crossover_found: sweep::crossing_mark(crossover),
+            bandwidth_kept: sweep::kept_mark(bandwidth),
+            first: first_of(ends),
+            last: last_of(ends),
+            crossover: sweep::crossing_value(crossover),
+            bandwidth: sweep::kept_value(bandwidth),
+        }
+    }
+
+    // The summary of plain numbers, whatever they are.
+    pub fn from_plain(plain: SensitivityPlain) -> SensitivitySummary
+        ensures { λ r. ⌜ r ≡ fromPlain plain ⌝ }
+    {
+        SensitivitySummary {
+            ends: marked_ends(plain.read, plain.first, plain.last),
+            crossover: sweep::marked_crossing(plain.crossover_found, plain.crossover),
+            bandwidth: sweep::marked_kept(plain.bandwidth_kept, plain.bandwidth),
+        }
     }
 }

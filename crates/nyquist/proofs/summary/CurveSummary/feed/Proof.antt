@@ -3,7 +3,8 @@ use borrow.Author.Tests.{eqb-true}
 use Rattle.sweep.proofs.Numbers.{let-through}
 use Rattle.sweep.proofs.Conditions.{scan-taken}
 use Rattle.sweep.proofs.Runs.{feed-refused, feed-taken}
-use Rattle.nyquist.specs.Summary.{curveRefusal, numberOfFed, leftBy}
+use Rattle.nyquist.specs.Curve.{curveRefusal}
+use Rattle.nyquist.specs.Summary.{numberOfFed, leftBy}
 use Rattle.nyquist.proofs.summary.CurveSummary.feed.Statement.{statement}
 use Rattle.nyquist.proofs.summary.CurveSummary.feed.Tie as tie
 

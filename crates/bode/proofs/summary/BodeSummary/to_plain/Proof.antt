@@ -1,0 +1,13 @@
+use Rattle.bode.specs.Plain.{plainOf}
+use borrow.Author.Needs.{needs}
+use Rattle.bode.proofs.summary.BodeSummary.to_plain.Statement.{statement}
+use Rattle.bode.proofs.summary.BodeSummary.to_plain.Tie as tie
+
+returns : tie.Need-returns
+unfolding plainOf
+returns c = cc
+
+pub to-plain-spec : {M : Type 1} → statement M
+to-plain-spec =
+    tie.close
+    (tie.spec (λ c κs. search needs) (λ c κs. search needs) (λ c κs. search needs) (λ c κs. search needs) (λ c κs. search needs) (λ c κs. search needs) (λ c κs. search needs) returns)

@@ -1,0 +1,11 @@
+use Rattle.nyquist.specs.Plain.{plainOf}
+use borrow.Author.Needs.{needs}
+use Rattle.nyquist.proofs.summary.CurveSummary.to_plain.Statement.{statement}
+use Rattle.nyquist.proofs.summary.CurveSummary.to_plain.Tie as tie
+
+returns : tie.Need-returns
+unfolding plainOf
+returns c = cc
+
+pub to-plain-spec : {M : Type 1} → statement M
+to-plain-spec = tie.close (tie.spec (λ c κs. search needs) (λ c κs. search needs) returns)
