@@ -1,0 +1,4 @@
+pub mod Decoded
+pub mod Places
+pub mod Replies
+pub mod Laws

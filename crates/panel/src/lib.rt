@@ -1,0 +1,148 @@
+// The entries of the regulator's set-up panel: gain and phase crossover of readings in bytes. A reading has 24 bytes:
+// the frequency, the magnitude in decibels and the phase in degrees, each an f64, the least byte first.
+ghost use mathlib.Core.Path.{_≡_};
+ghost use Prim.Native.Nat.{_+_, _*_, _%_, _≤_};
+ghost use lib.ListN.{length};
+ghost use Rattle.sweep.specs.Refusal.{refusalOf};
+ghost use Rattle.sweep.specs.Answer.{crossingOutcome};
+ghost use Rattle.bode.specs.Bode.{gainCrossover, phaseCrossover};
+ghost use Rattle.panel.specs.Panel.{readingAt, decoded, panelRefusal, panelOutcome, Replies};
+ghost use Rattle.panel.specs.Asked.{crossoverOf, betweenOf, Whole, firstPlace, firstOf};
+use bode::Reading;
+use sweep::Check;
+use sweep::Crossing;
+use sweep::FreqError;
+use sweep::Sought;
+
+// Which crossover is asked for.
+enum Asked {
+    Gain,
+    Phase,
+}
+
+// Where two readings that cross do so.
+fn between(asked: Asked, a: Reading, b: Reading) -> f64
+    ensures { λ r. ⌜ r ≡ betweenOf asked a b ⌝ }
+{
+    match asked {
+        Asked::Gain => bode::gain_between(a, b),
+        Asked::Phase => bode::phase_between(a, b),
+    }
+}
+
+// Reading i.
+fn reading_at(readings: &[u8], i: usize) -> Reading
+    requires { ⌜ 24 * i + 24 ≤ length (now readings) ⌝ }
+    ensures { λ r. ⌜ r ≡ readingAt (now (readings .entry)) i ⌝ }
+{
+    let at = 24 * i;
+    Reading {
+        omega: wire::f64_at(readings, at),
+        db: wire::f64_at(readings, at + 8),
+        phase: wire::f64_at(readings, at + 16),
+    }
+}
+
+// The first reading that has what is sought with the one behind it, by the values at a place of their bytes: the last
+// reading where none has. The loop's test is the one that `f64_at` makes, so that it is made once for each value.
+fn first_place(sought: Sought, place: usize, readings: &[u8]) -> usize
+    requires { ⌜ Whole place (now readings) ⌝ }
+    ensures { λ r. ⌜ r ≡ firstPlace sought place (now (readings .entry)) ⌝ }
+{
+    let n = readings.len();
+    if n < 48 {
+        return 0;
+    }
+    let last = n - 8;
+    let mut at = place;
+    let mut a = wire::f64_at(readings, at);
+    while at + 24 <= last {
+        let b = wire::f64_at(readings, at + 24);
+        if sweep::crosses(sought, a, b) {
+            return at / 24;
+        }
+        a = b;
+        at += 24;
+    }
+    at / 24
+}
+
+// The first reading that crosses with the one behind it.
+fn first_of(asked: Asked, readings: &[u8]) -> usize
+    requires { ⌜ length (now readings) % 24 ≡ 0 ⌝ }
+    ensures { λ r. ⌜ r ≡ firstOf asked (now (readings .entry)) ⌝ }
+{
+    match asked {
+        Asked::Gain => first_place(Sought::Zero, 8, readings),
+        Asked::Phase => first_place(Sought::Level(-180.0), 16, readings),
+    }
+}
+
+// The first crossing.
+fn crossing(asked: Asked, readings: &[u8]) -> Crossing
+    requires { ⌜ length (now readings) % 24 ≡ 0 ⌝ }
+    ensures { λ r. ⌜ r ≡ crossoverOf asked (decoded (now (readings .entry))) ⌝ }
+{
+    let i = first_of(asked, readings);
+    if sweep::has_pair(i, readings.len() / 24) {
+        let a = reading_at(readings, i);
+        let b = reading_at(readings, i + 1);
+        return Crossing::At(between(asked, a, b));
+    }
+    Crossing::Missing
+}
+
+// The conditions of a call with n bytes of readings and `room` bytes for the answer.
+fn check_panel(n: usize, room: usize) -> Check
+    ensures { λ r. ⌜ refusalOf r ≡ panelRefusal n room ⌝ }
+{
+    if n % 24 != 0 {
+        return Check::Refused(FreqError::WrongByteCount);
+    }
+    if 4096 < n / 24 {
+        return Check::Refused(FreqError::TooMany);
+    }
+    if room < 8 {
+        return Check::Refused(FreqError::NoRoom);
+    }
+    Check::Passed
+}
+
+// The number of a crossing; its frequency goes to the first eight bytes of `answer`.
+fn put(crossing: Crossing, answer: &mut [u8]) -> u32
+    requires { ⌜ 8 ≤ length (now answer) ⌝ }
+    ensures { λ r. ⌜ Replies (crossingOutcome crossing) r (now (answer .entry)) (now (answer .exit)) ⌝ }
+{
+    match crossing {
+        Crossing::At(x) => {
+            wire::put_f64(answer, x);
+            0
+        }
+        Crossing::Missing => 100,
+    }
+}
+
+fn reply(asked: Asked, readings: &[u8], answer: &mut [u8]) -> u32
+    ensures { λ r. ⌜ Replies (panelOutcome (crossoverOf asked) (now (readings .entry)) (now (answer .entry))) r (now (answer .entry)) (now (answer .exit)) ⌝ }
+{
+    match check_panel(readings.len(), answer.len()) {
+        Check::Refused(e) => e.number(),
+        Check::Passed => put(crossing(asked, readings), answer),
+    }
+}
+
+// The gain crossover of readings in bytes.
+#[no_mangle]
+pub extern "C" fn bazintroa_panel_gain_crossover(readings: &[u8], answer: &mut [u8]) -> u32
+    ensures { λ r. ⌜ Replies (panelOutcome gainCrossover (now (readings .entry)) (now (answer .entry))) r (now (answer .entry)) (now (answer .exit)) ⌝ }
+{
+    reply(Asked::Gain, readings, answer)
+}
+
+// The phase crossover of readings in bytes.
+#[no_mangle]
+pub extern "C" fn bazintroa_panel_phase_crossover(readings: &[u8], answer: &mut [u8]) -> u32
+    ensures { λ r. ⌜ Replies (panelOutcome phaseCrossover (now (readings .entry)) (now (answer .entry))) r (now (answer .entry)) (now (answer .exit)) ⌝ }
+{
+    reply(Asked::Phase, readings, answer)
+}
