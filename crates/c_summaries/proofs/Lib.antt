@@ -1,0 +1,4 @@
+pub mod Fed
+pub mod BodeRuns
+pub mod SensitivityRuns
+pub mod CurveRuns
