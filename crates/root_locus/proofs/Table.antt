@@ -1,31 +1,21 @@
 -- The rule of the table of starting points, by one test that is computed over the whole table. Assumes nothing.
-use Prim.Native.Nat.{ℕ, zero, suc, _+_, _^_, _<_, _≤_}
+use Prim.Native.Nat.{ℕ, _+_, _^_, _<_, _≤_}
 use mathlib.Core.Path.{_≡_, refl}
 use mathlib.Core.Bool.{Bool, true, false, cond, _&&_}
-use mathlib.Core.List.{List, [], _∷_}
-use native.Mathlib.Nat.{le-of-suc-le-suc, not-suc-le-zero}
+use mathlib.Core.List.{List, []}
 use native.Mathlib.Omega.{arith}
 use borrow.Author.Tests.{eqb-true}
 use lib.Dec.{T, eqb, leb, leb→le}
-use lib.ListN.{length, getD}
+use lib.ListN.{getD}
 use lib.Ieee.{Float, ofBits}
 use lib.Ieee.Fits.{and-l, and-r}
 use lib.Ieee.Scale.{finite}
+use Rattle.laws.specs.Tables.{every}
+use Rattle.laws.proofs.Tables.{every-at}
 use Rattle.scalar.specs.Sqrt.{inUnits}
 use Rattle.complex.specs.declared.Complex.{Complex}
 use Rattle.complex.specs.Complex.{newOf}
 use Rattle.root_locus.specs.StartingPoints.{pair, startTable, asComplex, firstPoint, startingPoint, squares, NearUnit}
-
--- ---- a test over a list, and the same test at each place
-every : {A : Type 0} → (A → Bool) → List A → Bool
-every f [] = true
-every f (x ∷ xs) = f x && every f xs
-
-every-at : {A : Type 0} (f : A → Bool) (d : A) (xs : List A) → T (every f xs) → (k : ℕ) → k < length xs → T (f (getD xs k d))
-unfolding every
-every-at f d [] t k h = absurd (not-suc-le-zero h)
-every-at f d (x ∷ xs) t zero h = and-l (f x) (every f xs) t
-every-at f d (x ∷ xs) t (suc k) h = every-at f d xs (and-r (f x) (every f xs) t) k (le-of-suc-le-suc h)
 
 -- ---- the rule as a test
 close : Complex → Bool
@@ -49,7 +39,7 @@ near-means z t =
     }
 
 whole-table : T (every (λ (p : List Float). near (asComplex p)) startTable)
-unfolding every near close startTable pair asComplex newOf squares inUnits ofBits
+unfolding near close startTable pair asComplex newOf squares inUnits ofBits
 whole-table = tt
 
 -- each of the 30 pairs: its squares sum to within 2 ^ -50 of 1

@@ -5,6 +5,7 @@
 ghost use mathlib.Core.Path.{_≡_};
 ghost use Prim.Native.Nat.{_<_, _≤_};
 ghost use lib.ListN.{length};
+ghost use Rattle.vectors.specs.Tally.{placeOf, noneAsked, countedIn};
 
 pub enum Word {
     Is(u64),
@@ -16,7 +17,7 @@ pub fn next() -> Word {
     if io::read_full(0, &mut bytes) < 8 {
         return Word::End;
     }
-    Word::Is(wire::u64_from_le_bytes(&bytes))
+    Word::Is(wire::u64_at(&bytes, 0))
 }
 
 // The next word, and 0 past the end.
@@ -67,7 +68,7 @@ pub fn floats(list: &mut [f64], count: u64) -> usize
 
 // The place of a question's counts. A question from 16 on has that of question 0, which no file asks.
 fn place(question: u64) -> usize
-    ensures { λ r. ⌜ r < 16 ⌝ }
+    ensures { λ r. ⌜ (r ≡ placeOf question) × (r < 16) ⌝ }
 {
     if 16 <= question {
         return 0;
@@ -82,7 +83,9 @@ pub struct Tally {
 }
 
 impl Tally {
-    pub fn new() -> Self {
+    pub fn new() -> Self
+        ensures { λ r. ⌜ r ≡ noneAsked ⌝ }
+    {
         Self {
             asked: [0; 16],
             differ: [0; 16],
@@ -90,7 +93,9 @@ impl Tally {
     }
 
     // One answer more.
-    pub fn count(mut self, question: u64, right: bool) -> Self {
+    pub fn count(mut self, question: u64, right: bool) -> Self
+        ensures { λ r. ⌜ r ≡ countedIn self question right ⌝ }
+    {
         let q = place(question);
         self.asked[q] = std::num::wrapping_add_u64(self.asked[q], 1);
         if !right {

@@ -1,0 +1,186 @@
+-- The cases that document 01 works by hand, those with a star, row for row. Definitions only.
+use Prim.Native.Nat.{ℕ, _^_}
+use mathlib.Core.Bool.{true, false}
+use mathlib.Core.List.{List, [], _∷_}
+use lib.ListN.{take, drop}
+use lib.Ieee.{Float, nan, binary64, round, neg}
+use Rattle.laws.specs.Outcome.{Outcome, found, none}
+use Rattle.sweep.specs.Answer.{notKept}
+use Rattle.sweep.specs.Runs.{Calls, start, feed, join}
+use Rattle.transfer_fn.specs.declared.TransferFn.{TransferFn}
+use Rattle.sensitivity.specs.declared.LoopShaping.{LoopShaping}
+use Rattle.worked_cases.specs.Cases.{Bode, Sensitivity, Curve, tf, sqrt, multiply, divide, loopGainAt, sensitivityAt, compSensitivityAt, controlSensitivityAt, polynomial, locusPoint, stabilityAt, stabilityRegion, gainCrossover, phaseCrossover, gainMargin, phaseMargin, bandwidth, distanceToCritical, gainOfSummary, phaseOfSummary, bandwidthOfSummary, approachOfSummary, Row, _gives_}
+
+-- ---- how numbers are written
+
+infix 90 +_ -_
+infix 70 _over_
+-- a whole number, and its negative: `- 0` is -0
+abbrev +_ : ℕ → Float
++_ n = round binary64 false n 1
+
+abbrev -_ : ℕ → Float
+-_ n = round binary64 true n 1
+
+-- m / n
+abbrev _over_ : ℕ → ℕ → Float
+_over_ m n = round binary64 false m n
+
+-- ---- what the cases are about
+
+-- b 0.5, a -0.5; b (0, 1), a (-1, 0.25); b -1, a 0.5
+abbrev first : TransferFn
+first = tf (1 over 2 ∷ []) (neg (1 over 2) ∷ [])
+
+abbrev second : TransferFn
+second = tf (+ 0 ∷ + 1 ∷ []) (- 1 ∷ 1 over 4 ∷ [])
+
+abbrev cancelled : TransferFn
+cancelled = tf (- 1 ∷ []) (1 over 2 ∷ [])
+
+-- plant b 1, a -0.5, controller b 0.5, a 0; pairs (1, -0) twice
+abbrev loop : LoopShaping
+loop = record { plant = tf (+ 1 ∷ []) (neg (1 over 2) ∷ []); controller = tf (1 over 2 ∷ []) (+ 0 ∷ []) }
+
+abbrev cosines : List Float
+cosines = + 1 ∷ + 1 ∷ []
+
+abbrev sines : List Float
+sines = - 0 ∷ - 0 ∷ []
+
+-- ω 1, 2, 4, 8; dB 6, 2, -2, -10; phase -90, -120, -160, -200
+abbrev rising : Bode
+rising =
+    record {
+      omega = + 1 ∷ + 2 ∷ + 4 ∷ + 8 ∷ [];
+      db = + 6 ∷ + 2 ∷ - 2 ∷ - 10 ∷ [];
+      phase = - 90 ∷ - 120 ∷ - 160 ∷ - 200 ∷ [];
+    }
+
+-- ω 1, 4, 2, 3; dB 5, 5, 1, -1; phase -100, -140, -150, -170
+abbrev unsorted : Bode
+unsorted =
+    record {
+      omega = + 1 ∷ + 4 ∷ + 2 ∷ + 3 ∷ [];
+      db = + 5 ∷ + 5 ∷ + 1 ∷ - 1 ∷ [];
+      phase = - 100 ∷ - 140 ∷ - 150 ∷ - 170 ∷ [];
+    }
+
+-- ω 1.5, 4503599627370499; dB 1, 0; phases that document 01 leaves open
+abbrev far : Float → Float → Bode
+far p q = record { omega = 3 over 2 ∷ + 4503599627370499 ∷ []; db = + 1 ∷ + 0 ∷ []; phase = p ∷ q ∷ [] }
+
+-- ω 1, 2, 4; T 0, -1, -5; one reading; an S that document 01 leaves open
+abbrev dropping : Sensitivity
+dropping = record { omega = + 1 ∷ + 2 ∷ + 4 ∷ []; s = - 20 ∷ - 10 ∷ + 5 ∷ []; t = + 0 ∷ - 1 ∷ - 5 ∷ [] }
+
+abbrev single : Sensitivity
+single = record { omega = + 1 ∷ []; s = + 0 ∷ []; t = + 0 ∷ [] }
+
+-- (0, 0), (-1, 0.5); no point
+abbrev twoPoints : Curve
+twoPoints = record { re = + 0 ∷ - 1 ∷ []; im = + 0 ∷ 1 over 2 ∷ [] }
+
+abbrev noPoints : Curve
+noPoints = record { re = []; im = [] }
+
+-- ---- a sweep in two parts: the first n readings, and the rest
+
+abbrev cutBode : ℕ → Bode → Bode × Bode
+cutBode n p = (
+  record { omega = take n (p .omega); db = take n (p .db); phase = take n (p .phase) },
+  record { omega = drop n (p .omega); db = drop n (p .db); phase = drop n (p .phase) },
+)
+
+abbrev cutSensitivity : ℕ → Sensitivity → Sensitivity × Sensitivity
+cutSensitivity n p = (
+  record { omega = take n (p .omega); s = take n (p .s); t = take n (p .t) },
+  record { omega = drop n (p .omega); s = drop n (p .s); t = drop n (p .t) },
+)
+
+abbrev cutCurve : ℕ → Curve → Curve × Curve
+cutCurve n p = (record { re = take n (p .re); im = take n (p .im) }, record { re = drop n (p .re); im = drop n (p .im) })
+
+-- the parts fed one behind the other; the parts' own summaries joined
+abbrev fed : {P : Type 0} → P × P → Calls P
+fed p = feed (feed start (p .0)) (p .1)
+
+abbrev joined : {P : Type 0} → P × P → Calls P
+joined p = join (feed start (p .0)) (feed start (p .1))
+
+-- ---- what a case gives
+
+-- a locus point's gain, and its poles part by part
+abbrev point : Float → List Float → Outcome
+point gain poles = found (gain ∷ poles)
+
+abbrev isStable : Outcome
+isStable = found (+ 1 ∷ [])
+
+abbrev notStable : Outcome
+notStable = found (+ 0 ∷ [])
+
+-- ---- the table. A locus point is named by its gain there: it is point 1 of 2 up to that gain, and for gain 0 point 0.
+
+unfoldable pub worked : List Row
+unfolding round neg
+worked =
+    -- (1,2)·(3,4) = (-5,10). (-5,10)/(3,4) = (1,2). Division by (0,0): none.
+    (multiply (+ 1, + 2) (+ 3, + 4) gives found (- 5 ∷ + 10 ∷ [])) ∷
+    (divide (- 5, + 10) (+ 3, + 4) gives found (+ 1 ∷ + 2 ∷ [])) ∷
+    (divide (- 5, + 10) (+ 0, + 0) gives none) ∷
+    -- Square root of 2.25 is 1.5; of 2^-1074 is 2^-537; of -0 is -0.
+    (sqrt (9 over 4) gives found (3 over 2 ∷ [])) ∷
+    (sqrt (1 over 2 ^ 1074) gives found (1 over 2 ^ 537 ∷ [])) ∷
+    (sqrt (- 0) gives found (- 0 ∷ [])) ∷
+    -- Order 1, b 0.5, a -0.5, gain 2: coefficients 2, -0.5, pole (0.25, 0).
+    (polynomial first (+ 2) gives found (+ 2 ∷ neg (1 over 2) ∷ [])) ∷
+    (locusPoint first (+ 2) 2 1 gives point (+ 2) (1 over 4 ∷ + 0 ∷ [])) ∷
+    -- Order 2, b (0, 1), a (-1, 0.25), gain 0: pole 0.5 twice. Gain 0.5: coefficients 1, -0.5, 0.25.
+    (locusPoint second (+ 1) 2 0 gives point (+ 0) (1 over 2 ∷ + 0 ∷ 1 over 2 ∷ + 0 ∷ [])) ∷
+    (polynomial second (1 over 2) gives found (+ 1 ∷ neg (1 over 2) ∷ 1 over 4 ∷ [])) ∷
+    -- Order 1, b -1, a 0.5, gain 1: no poles, stable. Pole (1,0): not stable; (0.5,0.5): stable; a NaN pole: stable.
+    (locusPoint cancelled (+ 1) 2 1 gives point (+ 1) []) ∷
+    (stabilityAt cancelled (+ 1) 2 1 gives isStable) ∷
+    (stabilityRegion ((+ 1, + 0) ∷ []) 1 gives notStable) ∷
+    (stabilityRegion ((1 over 2, 1 over 2) ∷ []) 1 gives isStable) ∷
+    (stabilityRegion ((nan, + 0) ∷ []) 1 gives isStable) ∷
+    (stabilityRegion ((+ 0, nan) ∷ []) 1 gives isStable) ∷
+    -- ω 1, 2, 4, 8; ..: gain crossover 3, phase crossover 6, gain margin 6, phase margin 40.
+    (gainCrossover rising gives found (+ 3 ∷ [])) ∷
+    (phaseCrossover rising gives found (+ 6 ∷ [])) ∷
+    (gainMargin rising gives found (+ 6 ∷ [])) ∷
+    (phaseMargin rising gives found (+ 40 ∷ [])) ∷
+    -- ω 1, 4, 2, 3; ..: crossover 2.5, phase margin 60, from the first pair.
+    (gainCrossover unsorted gives found (5 over 2 ∷ [])) ∷
+    (phaseMargin unsorted gives found (+ 60 ∷ [])) ∷
+    -- ω 1.5, 4503599627370499; dB 1, 0: crossover 4503599627370500, past the pair, so no phase margin.
+    (gainCrossover (far (- 100) (- 120)) gives found (+ 4503599627370500 ∷ [])) ∷
+    (phaseMargin (far (- 100) (- 120)) gives none) ∷
+    (gainCrossover (far (- 170) (- 190)) gives found (+ 4503599627370500 ∷ [])) ∷
+    (phaseMargin (far (- 170) (- 190)) gives none) ∷
+    -- ω 1, 2, 4; T in dB 0, -1, -5: bandwidth 3. One reading: none.
+    (bandwidth dropping gives found (+ 3 ∷ [])) ∷
+    (bandwidth single gives none) ∷
+    -- Closest approach of (0,0), (-1,0.5): 0.5. Of an empty curve: 0.
+    (distanceToCritical twoPoints gives found (1 over 2 ∷ [])) ∷
+    (distanceToCritical noPoints gives found (+ 0 ∷ [])) ∷
+    -- Plant b 1, a -0.5, ..: L 1, S 0.5, T 0.5, Q 0.25.
+    (loopGainAt loop cosines sines gives found (+ 1 ∷ + 0 ∷ [])) ∷
+    (sensitivityAt loop cosines sines gives found (1 over 2 ∷ + 0 ∷ [])) ∷
+    (compSensitivityAt loop cosines sines gives found (1 over 2 ∷ + 0 ∷ [])) ∷
+    (controlSensitivityAt loop cosines sines gives found (1 over 4 ∷ + 0 ∷ [])) ∷
+    -- The same sweeps in two parts, through the summaries: no join keeps a bandwidth.
+    (gainOfSummary (fed (cutBode 2 rising)) gives found (+ 3 ∷ [])) ∷
+    (gainOfSummary (joined (cutBode 2 rising)) gives found (+ 3 ∷ [])) ∷
+    (phaseOfSummary (fed (cutBode 3 rising)) gives found (+ 6 ∷ [])) ∷
+    (phaseOfSummary (joined (cutBode 3 rising)) gives found (+ 6 ∷ [])) ∷
+    (gainOfSummary (joined (cutBode 3 unsorted)) gives found (5 over 2 ∷ [])) ∷
+    (gainOfSummary (joined (cutBode 1 (far (- 100) (- 120)))) gives found (+ 4503599627370500 ∷ [])) ∷
+    (bandwidthOfSummary (fed (cutSensitivity 2 dropping)) gives found (+ 3 ∷ [])) ∷
+    (bandwidthOfSummary (joined (cutSensitivity 2 dropping)) gives notKept) ∷
+    (bandwidthOfSummary (feed start single) gives none) ∷
+    (approachOfSummary (fed (cutCurve 1 twoPoints)) gives found (1 over 2 ∷ [])) ∷
+    (approachOfSummary (joined (cutCurve 1 twoPoints)) gives found (1 over 2 ∷ [])) ∷
+    (approachOfSummary (feed start noPoints) gives found (+ 0 ∷ [])) ∷
+    []
