@@ -2,6 +2,7 @@
 
 use crate::numbers::MAX_ORDER;
 use crate::random::Random;
+use crate::rows::list;
 use oxictl::core::transfer_fn::TransferFn;
 use std::array;
 
@@ -35,6 +36,12 @@ impl Coefficients {
             order,
             ..Self::new(random, &pairs)
         }
+    }
+
+    /// In the words of the definitions.
+    pub fn text(&self) -> String {
+        let [b, a] = [&self.b, &self.a].map(|values| list(values));
+        format!("record {{ b = {b}; a = {a}; order = {} }}", self.order)
     }
 
     /// As the Rust takes it. It also takes orders above 8; the coefficients past the eighth are 0.

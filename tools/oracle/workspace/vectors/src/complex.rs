@@ -2,6 +2,7 @@
 
 use crate::numbers::{NONE, VALUE};
 use crate::random::{beside, nans, power_of_two, specials, with_neighbours, Random, EPS, ROOT_EPS};
+use crate::rows::{float, pair, Rows};
 use crate::words::Words;
 use num_traits::Float;
 use oxictl::core::frequency_domain::Complex;
@@ -9,10 +10,10 @@ use oxictl::core::scalar::ControlScalar;
 use Question::*;
 
 /// x.re, x.im, y.re, y.im.
-type Arguments = [f64; 4];
+pub type Arguments = [f64; 4];
 
 #[derive(Clone, Copy, Debug)]
-enum Question {
+pub enum Question {
     Abs = 1,
     Sqrt,
     New,
@@ -39,7 +40,7 @@ impl Question {
     }
 
     /// What the Rust answers. Beside a real answer stands 0.
-    fn answer(self, [x_re, x_im, y_re, y_im]: Arguments) -> Option<[f64; 2]> {
+    pub fn answer(self, [x_re, x_im, y_re, y_im]: Arguments) -> Option<[f64; 2]> {
         let x = Complex::new(x_re, x_im);
         let y = Complex::new(y_re, y_im);
         let real = |value: f64| Some([value, 0.0]);
@@ -61,10 +62,23 @@ impl Question {
     }
 }
 
+/// Document 01's worked cases.
+const WORKED: [(Question, Arguments); 6] = [
+    (Multiply, [1.0, 2.0, 3.0, 4.0]),
+    (Divide, [-5.0, 10.0, 3.0, 4.0]),
+    (Divide, [-5.0, 10.0, 0.0, 0.0]),
+    (Sqrt, [2.25, 0.0, 0.0, 0.0]),
+    (Sqrt, [5e-324, 0.0, 0.0, 0.0]), // 2^-1074
+    (Sqrt, [-0.0, 0.0, 0.0, 0.0]),
+];
+
 pub fn vectors() -> Words {
     let random = &mut Random::new(1);
     let mut words = Words::default();
 
+    for (question, arguments) in WORKED {
+        ask(&mut words, question, arguments);
+    }
     let reals = reals(random);
     let radicands = radicands(random);
     for &x in &reals {
@@ -101,6 +115,76 @@ pub fn vectors() -> Words {
 
     ask(&mut words, Epsilon, [0.0; 4]);
     words
+}
+
+/// Rows for the prover.
+pub fn rows(rows: &mut Rows, random: &mut Random) {
+    rows.table(
+        "squareRoots",
+        "square roots of subnormals, of numbers beside an exact square, of numbers beside the square of a point midway between two floats",
+    );
+    let mut radicands = vec![
+        f64::from_bits(3),
+        random.subnormal().abs(),
+        with_neighbours(f64::MIN_POSITIVE)[0],
+        f64::MIN_POSITIVE,
+        f64::MAX,
+        f64::INFINITY,
+        -f64::from_bits(1),
+        random.nan(),
+    ];
+    radicands.extend(with_neighbours(1.0));
+    radicands.extend(with_neighbours(exact_square(random)));
+    for _ in 0..3 {
+        radicands.extend(beside_midway(random));
+    }
+    for x in radicands {
+        row(rows, Sqrt, [x, 0.0, 0.0, 0.0]);
+    }
+    rows.table(
+        "complexNumbers",
+        "complex numbers that are moderate, huge and tiny; zeros of either sign, infinities; divisors with squared magnitude eps or next to it",
+    );
+    for question in [Multiply, Divide, Reciprocal, Magnitude] {
+        row(rows, question, [(); 4].map(|_| random.between(-10.0, 10.0)));
+        row(
+            rows,
+            question,
+            [(); 4].map(|_| random.with_exponent(-520, 520)),
+        );
+        row(rows, question, [-0.0, 0.0, -1.5, -0.0]);
+        row(rows, question, [f64::INFINITY, 1.0, -2.0, f64::MAX]);
+    }
+    for square in with_neighbours(EPS) {
+        let [re, im] = loop {
+            let re = random.between(-ROOT_EPS, ROOT_EPS);
+            let im = beside(re, square);
+            if re * re + im * im == square {
+                break [re, im];
+            }
+        };
+        row(rows, Reciprocal, [re, im, 0.0, 0.0]);
+        row(rows, Divide, [random.between(-2.0, 2.0), -0.0, re, im]);
+    }
+}
+
+fn row(rows: &mut Rows, question: Question, arguments: Arguments) {
+    let [x_re, x_im, y_re, y_im] = arguments;
+    let [x, y] = [pair([x_re, x_im]), pair([y_re, y_im])];
+    let name = format!("{question:?}").to_lowercase();
+    let case = match question.reads() {
+        1 => format!("{name} {}", float(x_re)),
+        2 => format!("{name} {x}"),
+        _ => format!("{name} {x} {y}"),
+    };
+    let count = match question {
+        Sqrt | Magnitude => 1,
+        _ => 2,
+    };
+    match question.answer(arguments) {
+        Some(values) => rows.row(&case, VALUE, &values[..count]),
+        None => rows.row(&case, NONE, &[]),
+    }
 }
 
 /// Writes a record: the question, its arguments and what the Rust answers.
@@ -146,22 +230,31 @@ fn radicands(random: &mut Random) -> Vec<f64> {
         list.push(f64::from_bits((exponent << 52) | significand));
     }
     list.extend((0..200).map(|_| random.subnormal().abs()));
-    // Exact squares of 26 bits, and their neighbours.
+    // With their neighbours.
     for _ in 0..150 {
-        let root = random.below(1 << 26) | 1;
-        let scale = power_of_two(random.below(950) as i32 * 2 - 1000);
-        list.extend(with_neighbours((root * root) as f64 * scale));
+        list.extend(with_neighbours(exact_square(random)));
     }
-    // The numbers on both sides of the square of a point midway between two floats.
     for _ in 0..150 {
-        let twice_midway = u128::from(random.below(1 << 52) | (1 << 52)) * 2 + 1;
-        let square = twice_midway * twice_midway;
-        let shift = 128 - square.leading_zeros() - 53;
-        let scale = power_of_two(shift as i32 - 2 + random.below(900) as i32 * 2 - 1000);
-        let below = (square >> shift) as f64;
-        list.extend([below * scale, (below + 1.0) * scale]);
+        list.extend(beside_midway(random));
     }
     list
+}
+
+/// The exact square of a number of 26 bits.
+fn exact_square(random: &mut Random) -> f64 {
+    let root = random.below(1 << 26) | 1;
+    let scale = power_of_two(random.below(950) as i32 * 2 - 1000);
+    (root * root) as f64 * scale
+}
+
+/// The numbers on both sides of the square of a point midway between two floats.
+fn beside_midway(random: &mut Random) -> [f64; 2] {
+    let twice_midway = u128::from(random.below(1 << 52) | (1 << 52)) * 2 + 1;
+    let square = twice_midway * twice_midway;
+    let shift = 128 - square.leading_zeros() - 53;
+    let scale = power_of_two(shift as i32 - 2 + random.below(900) as i32 * 2 - 1000);
+    let below = (square >> shift) as f64;
+    [below * scale, (below + 1.0) * scale]
 }
 
 /// Four parts: of every class, with results that round, overflow and underflow.

@@ -6,6 +6,7 @@ use crate::numbers::{
     INVALID_PARAMETER, MAX_POINTS, NO_ROOM, TOO_MANY, VALUE,
 };
 use crate::random::Random;
+use crate::rows::{expected, float, list, Rows};
 use crate::words::Words;
 use oxictl::core::frequency_domain::{compute_nyquist, compute_root_locus};
 use oxictl::core::transfer_fn::TransferFn;
@@ -117,6 +118,45 @@ fn write(words: &mut Words, case: &Case) {
     let number = *answer.as_ref().err().unwrap_or(&VALUE);
     words.answer(number, &answer.unwrap_or_default());
     words.count(format!("{:?} {number}", case.question));
+}
+
+/// Rows for the prover. A place that the grid does not take must stay.
+pub fn rows(rows: &mut Rows, random: &mut Random) {
+    rows.table(
+        "grids",
+        "grids shorter than the list; a product that overflows; subnormals; refusals",
+    );
+    for question in [Gains, Frequencies] {
+        for (top, n, room) in [
+            (random.between(0.0, 10.0), 7, 9),
+            (f64::MAX, 4, 4),
+            (random.subnormal().abs(), 4, 5),
+            (-1.0, 1, 0),
+            (-0.0, 4097, 2),
+            (1.0, 4097, 2),
+            (1.0, 3, 2),
+        ] {
+            let lent: Vec<_> = (0..room).map(|_| random.between(-1.0, 1.0)).collect();
+            let case = Case {
+                question,
+                top,
+                n,
+                room,
+            };
+            let answer = case.answer();
+            let number = *answer.as_ref().err().unwrap_or(&VALUE);
+            let mut left = answer.unwrap_or_default();
+            left.extend(&lent[left.len()..]);
+            let name = match question {
+                Gains => "gainGrid",
+                Frequencies => "frequencyGrid",
+            };
+            rows.row_that(
+                &format!("{name} {} {n} ({})", float(top), list(&lent)),
+                &format!("leaves {number} {}", expected(&left)),
+            );
+        }
+    }
 }
 
 /// A case with as much room as it needs, or more.

@@ -7,6 +7,7 @@ pub mod grids;
 pub mod locus;
 pub mod numbers;
 pub mod random;
+pub mod rows;
 pub mod scans;
 pub mod sensitivity;
 pub mod start_table;

@@ -7,31 +7,35 @@ use crate::numbers::{
     MAX_POINTS, NO_SUCH_POINT, ORDER, TOO_MANY, VALUE,
 };
 use crate::random::{beside, power_of_two, specials, with_neighbours, Random, EPS};
+use crate::rows::{float, pair, Rows};
 use crate::words::{expected_bits, Words};
 use heapless::Vec as HVec;
 use oxictl::core::frequency_domain::{compute_root_locus, stability_region, Complex};
 use oxictl_inner::core::frequency_domain::root_locus::call_compute_closed_loop_poles;
-use std::io::{self, Write};
 
 /// The words that a case of each kind starts with.
 const POINT: u64 = 1;
 const REGION: u64 = 2;
 
-/// A gain and its poles, or the number of a refusal.
-type Answer = Result<(f64, Vec<[f64; 2]>), u64>;
+/// A gain and its poles.
+pub type GainAndPoles = (f64, Vec<[f64; 2]>);
+
+/// A point, or the number of a refusal.
+pub type Answer = Result<GainAndPoles, u64>;
 
 /// What is asked of the locus: its point `i` of `n`.
-struct Point {
-    k_max: f64,
-    function: Coefficients,
-    n: u64,
-    i: u64,
+#[derive(Clone)]
+pub struct Point {
+    pub k_max: f64,
+    pub function: Coefficients,
+    pub n: u64,
+    pub i: u64,
 }
 
 impl Point {
     /// A point at gain 1, where the loop has this polynomial, from the leading coefficient on. The
     /// leading one is 1 + b[0], and so it may be rounded.
-    fn of_polynomial(random: &mut Random, polynomial: &[f64]) -> Self {
+    pub fn of_polynomial(random: &mut Random, polynomial: &[f64]) -> Self {
         // To add -0 changes nothing.
         let mut pairs: Vec<_> = polynomial[1..].iter().map(|&c| [-0.0, c]).collect();
         let lead = polynomial[0];
@@ -69,7 +73,7 @@ impl Point {
     }
 
     /// Document 01's conditions, in its order.
-    fn refusal(&self) -> Option<u64> {
+    pub fn refusal(&self) -> Option<u64> {
         if self.n < 2 {
             Some(INSUFFICIENT_POINTS)
         } else if self.k_max <= 0.0 || self.function.order > MAX_ORDER {
@@ -87,20 +91,28 @@ impl Point {
         }
     }
 
-    fn answer(&self) -> Answer {
-        let refusal = self.refusal();
-        let answer = match refusal {
+    /// The point by `compute_closed_loop_poles`, or the refusal by document 01.
+    pub fn answer(&self) -> Answer {
+        match self.refusal() {
             Some(number) => Err(number),
             None => Ok((
                 self.gain(),
                 at_constant!(self.function.order, N in 1 2 3 4 5 6 7 8
                     => self.poles::<N>(), else unreachable!("refused")),
             )),
-        };
-        if let Some(asked) = self.asked() {
-            assert_refused_alike(&asked, refusal);
+        }
+    }
+
+    /// The same. The program stops if `compute_root_locus` says something else, where it is built
+    /// with the order and the number of points.
+    pub fn checked_answer(&self) -> Answer {
+        let answer = self.answer();
+        if let Some(locus) = self.locus() {
+            let refusal = self.refusal();
+            assert_refused_alike(&locus, refusal);
             if refusal.is_none() {
-                assert_eq!(written(&asked), written(&answer));
+                let point = locus.map(|points| points[self.i as usize].clone());
+                assert_eq!(written(&point), written(&answer));
             }
         }
         answer
@@ -113,27 +125,28 @@ impl Point {
         poles.iter().map(|pole| [pole.re, pole.im]).collect()
     }
 
-    /// What stands in the locus that the Rust computes as a whole, for some numbers of points; the
-    /// last point where there is no point `i`.
-    fn asked(&self) -> Option<Answer> {
+    /// The locus that the Rust computes as a whole, for some numbers of points.
+    pub fn locus(&self) -> Option<Result<Vec<GainAndPoles>, u64>> {
         at_constant!(self.function.order, N in 1 2 3 4 5 6 7 8 9 =>
             at_constant!(self.n, POINTS in 0 1 2 3 5 9 17 33 =>
-                Some(self.locus::<N, POINTS>()), else None), else None)
+                Some(self.locus_of::<N, POINTS>()), else None), else None)
     }
 
-    fn locus<const N: usize, const POINTS: usize>(&self) -> Answer {
+    fn locus_of<const N: usize, const POINTS: usize>(&self) -> Result<Vec<GainAndPoles>, u64> {
         let tf = self.function.transfer_fn::<N>();
         let locus = compute_root_locus::<_, N, POINTS>(&tf, self.k_max).map_err(own_refusal)?;
-        let point = &locus.points[self.i.min(self.n - 1) as usize];
-        let poles = point.poles.iter().map(|pole| [pole.re, pole.im]);
-        Ok((point.gain, poles.collect()))
+        let points = locus.points.iter().map(|point| {
+            let poles = point.poles.iter().map(|pole| [pole.re, pole.im]);
+            (point.gain, poles.collect())
+        });
+        Ok(points.collect())
     }
 }
 
 /// What is asked of `stability_region`; a count above 8 is read as 8.
-struct Region {
-    count: u64,
-    poles: [[f64; 2]; 8],
+pub struct Region {
+    pub count: u64,
+    pub poles: [[f64; 2]; 8],
 }
 
 impl Region {
@@ -145,7 +158,7 @@ impl Region {
         Self { count, poles }
     }
 
-    fn answer(&self) -> bool {
+    pub fn answer(&self) -> bool {
         let mut poles = HVec::new();
         for &[re, im] in &self.poles[..self.count.min(8) as usize] {
             let pushed = poles.push(Complex::new(re, im));
@@ -177,17 +190,111 @@ pub fn vectors() -> Words {
     words
 }
 
-/// Writes so many random points, of orders 1 to 8.
-pub fn write_points(to: &mut impl Write, count: u64, seed: u64) -> io::Result<()> {
-    let random = &mut Random::new(seed);
-    for _ in 0..count {
-        let order = 1 + random.below(MAX_ORDER);
-        let kind = random.pick(&KINDS);
-        let mut words = Words::default();
-        write_point(&mut words, &random_point(random, order, kind));
-        to.write_all(words.bytes())?;
+/// Rows for the prover.
+pub fn rows(rows: &mut Rows, random: &mut Random) {
+    rows.table(
+        "formulas",
+        "points of degrees 1 and 2; leading coefficients that are dropped; a cubic; refusals",
+    );
+    for order in [1, 2, 2, 2] {
+        row(rows, &inner_point(random, order));
     }
-    Ok(())
+    let just_below = with_neighbours(EPS)[0];
+    for polynomial in [
+        vec![EPS / 2.0, -just_below, EPS, 1.5, -0.75],
+        vec![0.0, just_below],
+        vec![1.0, -0.5, 0.25, 2.0],
+    ] {
+        row(rows, &Point::of_polynomial(random, &polynomial));
+    }
+    for (k_max, order, n, i) in [
+        (1.0, 0, 1, 0),
+        (-0.0, 9, 2, 2),
+        (1.0, 9, 4097, 0),
+        (1.0, 0, 4097, 5000),
+        (1.0, 1, 4097, 5000),
+        (1.0, 3, 4096, 4096),
+    ] {
+        let function = Coefficients::random(random, order, stable);
+        row(
+            rows,
+            &Point {
+                k_max,
+                function,
+                n,
+                i,
+            },
+        );
+    }
+    // The prover has a limit for what it computes at once.
+    for (name, what, order) in [
+        ("quartic", "the search, degree 4", 4),
+        ("quintic", "the search, degree 5", 5),
+        ("sextic", "the search, degree 6", 6),
+        ("septic", "the search, degree 7", 7),
+        ("octic", "the search, degree 8", 8),
+    ] {
+        rows.table(name, what);
+        row(rows, &inner_point(random, order));
+    }
+    rows.table(
+        "searches",
+        "searches with a divisor of squared magnitude eps, and of the next below; one that ends at once, with roots that are NaN",
+    );
+    let [at, below] = [0, 2].map(|k| just_skipped().swap_remove(k));
+    for polynomial in [at, below, vec![1.0, -1.0, 1.7e308, -1.7e308, 0.0, 0.0]] {
+        row(rows, &Point::of_polynomial(random, &polynomial));
+    }
+    rows.table(
+        "regions",
+        "poles with squared magnitude 1 or next to it, with a NaN, past the count; a count above 8",
+    );
+    let mut regions = Vec::new();
+    for square in with_neighbours(1.0) {
+        let counted = [pole_inside(random), pole_of_square(random, square)];
+        regions.push(Region::new(random, &counted));
+    }
+    let nan = random.nan();
+    regions.push(Region::new(random, &[[nan, 2.0]]));
+    for count in [7, 9] {
+        let mut poles = [(); 8].map(|_| pole_inside(random));
+        poles[7] = [0.0, -1.0];
+        regions.push(Region { count, poles });
+    }
+    for region in &regions {
+        let poles: Vec<_> = region.poles.iter().map(|&pole| pair(pole)).collect();
+        let case = format!(
+            "stabilityRegion ({} ∷ []) {}",
+            poles.join(" ∷ "),
+            region.count
+        );
+        rows.row(&case, VALUE, &[f64::from(u8::from(region.answer()))]);
+    }
+}
+
+/// A point between the ends of a locus.
+fn inner_point(random: &mut Random, order: u64) -> Point {
+    Point {
+        k_max: random.between(0.5, 2.0),
+        function: Coefficients::random(random, order, moderate),
+        n: 5,
+        i: 3,
+    }
+}
+
+fn row(rows: &mut Rows, point: &Point) {
+    let function = format!(" {}", point.function.text());
+    let function = rows.name("function", "TransferFn", &function);
+    let case = format!(
+        "locusPoint {function} {} {} {}",
+        float(point.k_max),
+        point.n,
+        point.i
+    );
+    match point.answer() {
+        Ok((gain, poles)) => rows.row(&case, VALUE, &[vec![gain], poles.concat()].concat()),
+        Err(number) => rows.row(&case, number, &[]),
+    }
 }
 
 fn write_point(words: &mut Words, point: &Point) {
@@ -198,7 +305,7 @@ fn write_point(words: &mut Words, point: &Point) {
     words.word(point.i);
     words.arguments(&point.function.b);
     words.arguments(&point.function.a);
-    let answer = point.answer();
+    let answer = point.checked_answer();
     for word in written(&answer) {
         words.word(word);
     }
@@ -260,7 +367,7 @@ fn place(random: &mut Random) -> (u64, u64) {
 }
 
 /// Kinds of coefficients, above all those with which the search converges.
-const KINDS: [Kind; 9] = [
+pub const KINDS: [Kind; 9] = [
     stable,
     stable,
     stable,
@@ -273,7 +380,7 @@ const KINDS: [Kind; 9] = [
 ];
 
 /// A point of this order with coefficients of this kind.
-fn random_point(random: &mut Random, order: u64, kind: Kind) -> Point {
+pub fn random_point(random: &mut Random, order: u64, kind: Kind) -> Point {
     let [near_one, any] = [
         random.between(0.0, 10.0),
         random.with_exponent(-40, 40).abs(),
@@ -367,7 +474,7 @@ fn loci(random: &mut Random) -> Vec<Point> {
 
 /// Every order with every number of leading coefficients that do not count, up to all of them;
 /// the first that counts is often only just large enough.
-fn dropped(random: &mut Random) -> Vec<Point> {
+pub fn dropped(random: &mut Random) -> Vec<Point> {
     let just_below = with_neighbours(EPS)[0];
     let just_above = with_neighbours(EPS)[2];
     let mut points = Vec::new();
@@ -419,7 +526,7 @@ fn dropped(random: &mut Random) -> Vec<Point> {
 
 /// Polynomials of degree 1 and 2 with coefficients of every class, and with discriminants that are
 /// 0, barely not 0, overflow or are a NaN.
-fn low_degrees(random: &mut Random) -> Vec<Vec<f64>> {
+pub fn low_degrees(random: &mut Random) -> Vec<Vec<f64>> {
     let leads = [1.0, -1.5, 0.5, EPS, -EPS, power_of_two(512), f64::MAX];
     let mut list = vec![
         vec![0.5, 1.0, random.nan()],
@@ -507,7 +614,7 @@ fn just_skipped() -> Vec<Vec<f64>> {
 }
 
 /// Polynomials for the search. Some need all its rounds, some overflow or hold NaNs.
-fn high_degrees(random: &mut Random) -> Vec<Vec<f64>> {
+pub fn high_degrees(random: &mut Random) -> Vec<Vec<f64>> {
     let mut list = just_skipped();
     for degree in 4..=MAX_ORDER as usize {
         // The same root throughout, and roots close to each other.
@@ -646,7 +753,7 @@ fn refused(random: &mut Random) -> Vec<Point> {
 }
 
 /// A pole with this squared magnitude, which is about 1.
-fn pole_of_square(random: &mut Random, square: f64) -> [f64; 2] {
+pub fn pole_of_square(random: &mut Random, square: f64) -> [f64; 2] {
     loop {
         let re = random.between(-1.0, 1.0);
         let im = beside(re, square) * random.pick(&[1.0, -1.0]);
@@ -656,7 +763,7 @@ fn pole_of_square(random: &mut Random, square: f64) -> [f64; 2] {
     }
 }
 
-fn pole_inside(random: &mut Random) -> [f64; 2] {
+pub fn pole_inside(random: &mut Random) -> [f64; 2] {
     [(); 2].map(|_| random.between(-0.7, 0.7))
 }
 
@@ -699,15 +806,20 @@ fn regions(random: &mut Random) -> Vec<Region> {
         }
     }
     for _ in 0..200 {
-        let counted: Vec<_> = (0..random.below(9))
-            .map(|_| match random.below(12) {
-                0 => [random.special(), random.special()],
-                1 => [random.uniform_bits(), random.uniform_bits()],
-                2 => [(); 2].map(|_| random.between(-1.0, 1.0)),
-                _ => pole_inside(random),
-            })
-            .collect();
-        regions.push(Region::new(random, &counted));
+        regions.push(mixed_region(random));
     }
     regions
+}
+
+/// Up to eight poles, mostly inside the circle.
+pub fn mixed_region(random: &mut Random) -> Region {
+    let counted: Vec<_> = (0..random.below(9))
+        .map(|_| match random.below(12) {
+            0 => [random.special(), random.special()],
+            1 => [random.uniform_bits(), random.uniform_bits()],
+            2 => [(); 2].map(|_| random.between(-1.0, 1.0)),
+            _ => pole_inside(random),
+        })
+        .collect();
+    Region::new(random, &counted)
 }

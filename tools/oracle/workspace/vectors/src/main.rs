@@ -1,12 +1,11 @@
 //! Makes the test vectors by asking the Rust. `vectors FOLDER` writes FOLDER/NAME/stdin for each
 //! file and prints how many cases of each kind it holds. README.md gives the formats.
-//! `vectors start-table` prints the starting points of the root search instead, and
-//! `vectors points COUNT SEED` writes so many random points of the locus to standard output.
+//! `vectors start-table` prints the starting points of the root search instead, and `vectors rows`
+//! the table that the prover computes.
 
-use std::io::Write;
 use std::path::Path;
 use std::{env, fs, io};
-use vectors::{complex, grids, locus, scans, sensitivity, start_table, summaries};
+use vectors::{complex, grids, locus, rows, scans, sensitivity, start_table, summaries};
 
 fn main() -> io::Result<()> {
     let words: Vec<_> = env::args().skip(1).collect();
@@ -16,14 +15,12 @@ fn main() -> io::Result<()> {
             print!("{}", start_table::lines());
             Ok(())
         }
-        ["points", count, seed] => {
-            let number = |word: &str| word.parse().expect("a number");
-            let to = &mut io::BufWriter::new(io::stdout().lock());
-            locus::write_points(to, number(count), number(seed))?;
-            to.flush()
+        ["rows"] => {
+            print!("{}", rows::file());
+            Ok(())
         }
         [folder] => write_files(folder),
-        _ => panic!("usage: vectors FOLDER | start-table | points COUNT SEED"),
+        _ => panic!("usage: vectors FOLDER | start-table | rows"),
     }
 }
 

@@ -24,6 +24,7 @@ pub const NO_ROOM: u64 = 14;
 pub const TOO_MANY: u64 = 15;
 pub const ORDER: u64 = 16;
 pub const NO_SUCH_POINT: u64 = 17;
+pub const LENGTH_OF_BYTES: u64 = 19;
 
 pub const MAX_ORDER: u64 = 8;
 /// As many readings a scan takes, and as many points a grid or a locus.

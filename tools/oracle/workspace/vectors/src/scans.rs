@@ -2,6 +2,7 @@
 
 use crate::numbers::{LENGTHS_DIFFER, MAX_POINTS, NONE, NOT_ASKED, TOO_MANY, VALUE};
 use crate::random::{next_above, next_below, power_of_two, specials, with_neighbours, Random, EPS};
+use crate::rows::{float, list, record, Rows};
 use crate::words::Words;
 use heapless::Vec as HVec;
 use oxictl::core::frequency_domain::{
@@ -14,6 +15,8 @@ use Kind::*;
 
 /// As many readings the Rust's lists can hold: no scan that is not refused has more.
 pub const ROOM: usize = MAX_POINTS as usize;
+/// Short lists are held in less room, which is faster.
+pub const SHORT: usize = 64;
 /// No list is longer without its pad.
 const MAX_EXPLICIT: usize = 80;
 /// No list is longer with it.
@@ -28,7 +31,7 @@ pub type Answer = Result<Option<f64>, u64>;
 /// How to make a list of a length, whose values lie about a centre.
 pub type Style = fn(&mut Random, usize, f64) -> Vec<f64>;
 
-#[derive(Clone, Copy, Debug)]
+#[derive(Clone, Copy, Debug, PartialEq)]
 pub enum Kind {
     /// ω, dB, phase.
     Bode = 1,
@@ -119,6 +122,113 @@ fn write(words: &mut Words, case: &Case) {
     words.count(format!("{:?}: {}", case.kind, numbers.join(" ")));
 }
 
+/// Rows for the prover.
+pub fn rows(rows: &mut Rows, random: &mut Random) {
+    let crossing = 2.5;
+    let mut cases = Vec::new();
+    for (frequencies, levels) in [
+        (FREQUENCIES[0], LEVELS[0]),
+        (FREQUENCIES[2], swinging as Style),
+        (FREQUENCIES[3], near),
+        (FREQUENCIES[0], with_specials),
+    ] {
+        let lists = [
+            frequencies(random, 6, 5.0),
+            levels(random, 6, 0.0),
+            levels(random, 6, HALF_TURN),
+        ];
+        cases.push(Case::new(Bode, [&lists[0], &lists[1], &lists[2]]));
+        let t = levels(random, 6, 0.0);
+        cases.push(Case::new(Sensitivity, [&lists[0], &lists[1], &t]));
+    }
+    // The first pair encloses the crossover of the second, or just does not.
+    for first in [crossing, next_above(crossing)] {
+        cases.push(Case::new(
+            Bode,
+            [
+                &[first, 4.0, 2.0, 3.0],
+                &[5.0, 4.5, 1.0, -1.0],
+                &[-100.0, -121.0, -170.0, -190.0],
+            ],
+        ));
+    }
+    for size in with_neighbours(EPS) {
+        let omega = random.pick(&[[0.1, 0.3], [3.0, 0.5]]);
+        let db = apart(random, size);
+        cases.push(Case::new(Bode, [&omega, &db, &[-180.0, -170.0]]));
+        cases.push(Case::new(Sensitivity, [&omega, &db, &[3.0, -0.0]]));
+    }
+    // The sign of a crossover of 0.
+    cases.push(Case::new(
+        Bode,
+        [&[-0.0, 1.0], &[0.0, 5.0], &[-180.0, -170.0]],
+    ));
+    cases.push(Case::new(
+        Sensitivity,
+        [&[-0.0, 1.0], &[0.0, 5.0], &[0.0, -4.0]],
+    ));
+    // The level is rounded.
+    let first = power_of_two(54) + 4.0;
+    let level = first - 3.0;
+    let t = [first, level, next_below(level)];
+    cases.push(Case::new(Sensitivity, [&[1.0, 2.0, 4.0], &t, &t]));
+    for parts in [swinging as Style, with_specials, special] {
+        let lists = [parts(random, 5, -1.0), parts(random, 5, 0.0)];
+        cases.push(Case::new(Curve, [&lists[0], &lists[1], &[]]));
+    }
+    for (kind, pad, lengths) in [
+        (Bode, 0, [2, 2, 1]),
+        (Sensitivity, 0, [1, 2, 2]),
+        (Curve, 0, [1, 2, 0]),
+        (Bode, ROOM, [1, 1, 1]),
+        (Curve, ROOM, [1, 1, 0]),
+    ] {
+        let lists = lengths.map(|length| swinging(random, length, 0.0));
+        cases.push(Case { kind, pad, lists });
+    }
+    rows.table(
+        "scans",
+        "sweeps of several styles; pairs that enclose a crossover or just do not; differences of eps or next to it; the sign of a crossover of 0; a level that is rounded; refusals",
+    );
+    for case in &cases {
+        let questions: &[&str] = match case.kind {
+            Bode => &[
+                "gainCrossover",
+                "phaseCrossover",
+                "gainMargin",
+                "phaseMargin",
+            ],
+            Sensitivity => &["sensitivityCrossover", "bandwidth"],
+            Curve => &["distanceToCritical"],
+        };
+        let sweep = name(rows, case.kind, case.pad, &case.lists[..case.kind.lists()]);
+        for (question, answer) in questions.iter().zip(answers(case)) {
+            let value: Vec<_> = answer.ok().flatten().into_iter().collect();
+            rows.row(&format!("{question} {sweep}"), number(answer), &value);
+        }
+    }
+}
+
+/// Names what a scan or a feed is handed.
+pub fn name(rows: &mut Rows, kind: Kind, pad: usize, lists: &[Vec<f64>]) -> String {
+    let fields: &[&str] = match kind {
+        Bode => &["omega", "db", "phase"],
+        Sensitivity => &["omega", "s", "t"],
+        Curve => &["re", "im"],
+    };
+    let whole = |values: &Vec<f64>| match values.first() {
+        Some(&first) if pad > 0 => format!("replicate {pad} {} ++ {}", float(first), list(values)),
+        _ => list(values),
+    };
+    let fields: Vec<_> = fields
+        .iter()
+        .copied()
+        .zip(lists.iter().map(whole))
+        .collect();
+    let word = format!("{kind:?}").to_lowercase();
+    rows.name(&word, &format!("{kind:?}"), &record(&fields))
+}
+
 pub fn number(answer: Answer) -> u64 {
     match answer {
         Ok(Some(_)) => VALUE,
@@ -161,10 +271,17 @@ fn answers(case: &Case) -> [Answer; 5] {
 }
 
 /// What the Rust answers to the questions of a kind.
-fn scan(kind: Kind, lists: &[Vec<f64>]) -> Vec<Option<f64>> {
+pub fn scan(kind: Kind, lists: &[Vec<f64>]) -> Vec<Option<f64>> {
+    match lists[0].len() {
+        0..=SHORT => scan_in::<SHORT>(kind, lists),
+        _ => scan_in::<ROOM>(kind, lists),
+    }
+}
+
+fn scan_in<const N: usize>(kind: Kind, lists: &[Vec<f64>]) -> Vec<Option<f64>> {
     match kind {
         Bode => {
-            let data = bode_data::<ROOM>([&lists[0], &lists[1], &lists[2]]);
+            let data = bode_data::<N>([&lists[0], &lists[1], &lists[2]]);
             vec![
                 gain_crossover_frequency(&data),
                 phase_crossover_frequency(&data),
@@ -174,11 +291,11 @@ fn scan(kind: Kind, lists: &[Vec<f64>]) -> Vec<Option<f64>> {
             ]
         }
         Sensitivity => {
-            let data = sensitivity_data::<ROOM>([&lists[0], &lists[1], &lists[2]]);
+            let data = sensitivity_data::<N>([&lists[0], &lists[1], &lists[2]]);
             vec![sensitivity_crossover(&data), bandwidth(&data)]
         }
         Curve => {
-            let data = nyquist_data::<ROOM>([&lists[0], &lists[1]]);
+            let data = nyquist_data::<N>([&lists[0], &lists[1]]);
             vec![Some(distance_to_critical(&data))]
         }
     }
@@ -319,6 +436,14 @@ fn worked() -> Vec<Case> {
     cases.extend(sensitivity.map(|lists| Case::new(Sensitivity, lists)));
     cases.extend(curve.map(|[re, im]| Case::new(Curve, [re, im, &[]])));
     cases
+}
+
+/// The lists of these cases, of one kind.
+pub fn worked_lists(kind: Kind) -> Vec<Vec<Vec<f64>>> {
+    let cases = worked().into_iter().filter(|case| case.kind == kind);
+    cases
+        .map(|case| case.lists[..kind.lists()].to_vec())
+        .collect()
 }
 
 /// Values about 0 and at the ends of the range; differences of two are `EPS` or next to it.

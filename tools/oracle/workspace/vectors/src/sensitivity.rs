@@ -4,6 +4,7 @@ use crate::coefficients::{mixed, moderate, special, stable, uniform_bits, Coeffi
 use crate::constant::at_constant;
 use crate::numbers::{LENGTHS_DIFFER, MAX_ORDER, ORDER, TOO_FEW_PAIRS, VALUE};
 use crate::random::{beside, power_of_two, with_neighbours, Random, EPS, ROOT_EPS};
+use crate::rows::{list, record, Rows};
 use crate::words::{expected_bits, Words};
 use num_traits::Float;
 use oxictl::core::frequency_domain::LoopShaping;
@@ -11,17 +12,17 @@ use oxictl_inner::core::frequency_domain::{bode, nyquist, sensitivity};
 use std::f64::consts::{FRAC_PI_2, PI};
 
 /// No case has longer lists than this.
-const MAX_PAIRS: usize = 12;
+pub const MAX_PAIRS: usize = 12;
 
 /// A value, or the number of a refusal.
-type Answer = Result<[f64; 2], u64>;
+pub type Answer = Result<[f64; 2], u64>;
 
 /// What is asked; `lengths` are those of the lists of cosines and sines.
-struct Case {
-    plant: Coefficients,
-    controller: Coefficients,
-    omega: f64,
-    lengths: [usize; 2],
+pub struct Case {
+    pub plant: Coefficients,
+    pub controller: Coefficients,
+    pub omega: f64,
+    pub lengths: [usize; 2],
 }
 
 pub fn vectors() -> Words {
@@ -36,6 +37,67 @@ pub fn vectors() -> Words {
         write(&mut words, random, case);
     }
     words
+}
+
+/// Rows for the prover.
+pub fn rows(rows: &mut Rows, random: &mut Random) {
+    let mut cases = Vec::new();
+    for [plant, controller] in [[1, 1], [3, 2], [0, 4], [8, 5]] {
+        let plant = Coefficients::random(random, plant, stable);
+        let controller = Coefficients::random(random, controller, stable);
+        let omega = random.between(0.0, PI);
+        cases.push(ample(random, plant, controller, omega));
+    }
+    let below_eps = ROOT_EPS * 0.75;
+    for (plant, controller) in [
+        ([1.0, 0.0], [-1.0, 0.0]),
+        ([1.0, 0.0], [below_eps - 1.0, 0.0]),
+        ([1.0, ROOT_EPS - 1.0], [-0.5, 0.0]),
+        ([1.0, below_eps - 1.0], [-0.5, 0.0]),
+        ([f64::INFINITY, 0.0], [0.5, 0.0]),
+    ] {
+        let [plant, controller] =
+            [plant, controller].map(|pair| Coefficients::new(random, &[pair]));
+        cases.push(ample(random, plant, controller, 0.0));
+    }
+    for (order, lengths) in [(9, [3, 4]), (2, [3, 4]), (2, [2, 2])] {
+        let plant = Coefficients::random(random, 1, stable);
+        let controller = Coefficients::random(random, order, stable);
+        let omega = random.between(0.0, PI);
+        cases.push(Case {
+            plant,
+            controller,
+            omega,
+            lengths,
+        });
+    }
+    rows.table(
+        "responses",
+        "evaluation and responses of several orders; 1 + L and denominators that are 0, below eps in square, eps; an infinite gain; refusals",
+    );
+    for case in &cases {
+        let [plant, controller] = [&case.plant, &case.controller].map(Coefficients::text);
+        let shaping = record(&[("plant", plant), ("controller", controller)]);
+        let shaping = rows.name("loop", "LoopShaping", &shaping);
+        let [cosines, sines] = pairs(random, case).map(|values| format!(" {}", list(&values)));
+        let cosines = rows.name("cosines", "List Float", &cosines);
+        let sines = rows.name("sines", "List Float", &sines);
+        let questions = [
+            format!("evalTfComplex ({shaping} .plant)"),
+            format!("loopGainAt {shaping}"),
+            format!("sensitivityAt {shaping}"),
+            format!("compSensitivityAt {shaping}"),
+            format!("controlSensitivityAt {shaping}"),
+        ];
+        for (question, answer) in questions.iter().zip(answers(case)) {
+            let values = answer.as_ref().map_or(&[][..], |values| &values[..]);
+            rows.row(
+                &format!("{question} {cosines} {sines}"),
+                number(answer),
+                values,
+            );
+        }
+    }
 }
 
 fn write(words: &mut Words, random: &mut Random, case: &Case) {
@@ -64,7 +126,7 @@ fn number(answer: Answer) -> u64 {
 
 /// The lists of cosines and sines as the Rust has them, often with junk past those it reads.
 /// The pattern of a computed NaN depends on the compiler, so one is drawn instead.
-fn pairs(random: &mut Random, case: &Case) -> [Vec<f64>; 2] {
+pub fn pairs(random: &mut Random, case: &Case) -> [Vec<f64>; 2] {
     let read = needed(&case.plant, &case.controller);
     let junk_past_read = random.below(3) > 0;
     let mut lists = [Vec::new(), Vec::new()];
@@ -85,7 +147,7 @@ fn pairs(random: &mut Random, case: &Case) -> [Vec<f64>; 2] {
 }
 
 /// How many pairs the evaluations that are not refused for their order read.
-fn needed(plant: &Coefficients, controller: &Coefficients) -> usize {
+pub fn needed(plant: &Coefficients, controller: &Coefficients) -> usize {
     let orders = [plant.order, controller.order];
     let largest = orders.into_iter().filter(|&order| order <= MAX_ORDER).max();
     largest.map_or(0, |order| order as usize + 1)
@@ -111,7 +173,8 @@ macro_rules! at_order {
     };
 }
 
-fn answers(case: &Case) -> [Answer; 5] {
+/// Of the plant's `eval_tf_complex`, and of the four responses in the order of the Rust's methods.
+pub fn answers(case: &Case) -> [Answer; 5] {
     let (plant, controller) = (&case.plant, &case.controller);
     let evaluation = match refusal(plant.order, case.lengths) {
         Some(number) => Err(number),

@@ -3,9 +3,10 @@
 
 use crate::numbers::{MAX_POINTS, NOT_KEPT, VALUE};
 use crate::random::{next_above, next_below, Random};
+use crate::rows::Rows;
 use crate::scans::{
-    bode_data, length, number, nyquist_data, refusal, sensitivity_data, Answer, Kind, Style,
-    FREQUENCIES, HALF_TURN, LEVELS, PARTS,
+    bode_data, length, name, number, nyquist_data, refusal, sensitivity_data, worked_lists, Answer,
+    Kind, Style, FREQUENCIES, HALF_TURN, LEVELS, PARTS, SHORT,
 };
 use crate::words::Words;
 use oxictl::core::frequency_domain::{
@@ -14,26 +15,26 @@ use oxictl::core::frequency_domain::{
 };
 use Kind::*;
 
-const KINDS: [Kind; 3] = [Bode, Sensitivity, Curve];
-const REGISTERS: usize = 4;
+pub const KINDS: [Kind; 3] = [Bode, Sensitivity, Curve];
+pub const REGISTERS: usize = 4;
 /// As many readings a part may have.
 const PART: usize = MAX_POINTS as usize;
 /// As many readings a book may have.
 const ROOM: usize = 10_000;
 
 /// As many lists as its kind has.
-type Lists = Vec<Vec<f64>>;
+pub type Lists = Vec<Vec<f64>>;
 
 /// What a feed is handed. Before a list that is not empty stand `pad` more copies of its first
 /// element.
 #[derive(Clone)]
-struct Part {
+pub struct Part {
     pad: usize,
     lists: Lists,
 }
 
 impl Part {
-    fn whole_lists(&self) -> Lists {
+    pub fn whole_lists(&self) -> Lists {
         let whole = |list: &Vec<f64>| {
             let first = list.iter().take(1).cycle();
             first.take(self.pad).chain(list).copied().collect()
@@ -43,22 +44,22 @@ impl Part {
 }
 
 #[derive(Clone)]
-enum Call {
+pub enum Call {
     Empty(usize),
     Feed(usize, Part),
     /// The second register's readings behind those of the first.
     Join(usize, usize),
 }
 
-struct Case {
-    kind: Kind,
-    calls: Vec<Call>,
+pub struct Case {
+    pub kind: Kind,
+    pub calls: Vec<Call>,
 }
 
 /// What the calls say of a register: the readings of the parts not refused, and whether a join is
 /// among its calls.
 #[derive(Clone)]
-struct Book {
+pub struct Book {
     lists: Lists,
     joined: bool,
 }
@@ -77,20 +78,20 @@ impl Book {
         }
     }
 
-    fn len(&self) -> usize {
+    pub fn len(&self) -> usize {
         self.lists[0].len()
     }
 }
 
 /// The books of all registers.
-struct Books([Book; REGISTERS]);
+pub struct Books(pub [Book; REGISTERS]);
 
 impl Books {
-    fn new(kind: Kind) -> Self {
+    pub fn new(kind: Kind) -> Self {
         Self([(); REGISTERS].map(|_| Book::empty(kind)))
     }
 
-    fn enter(&mut self, kind: Kind, call: &Call) {
+    pub fn enter(&mut self, kind: Kind, call: &Call) {
         match call {
             Call::Empty(at) => self.0[*at] = Book::empty(kind),
             Call::Feed(at, part) => {
@@ -113,13 +114,16 @@ pub fn vectors() -> Words {
     let mut cases = Vec::new();
     for kind in KINDS {
         cases.extend(smallest(kind));
-        cases.extend(fed(kind, random));
-        cases.extend(bracketed(kind, random));
-        cases.extend(met(kind, random));
+        cases.extend((0..220).map(|_| fed(kind, random)));
+        cases.extend((0..260).map(|_| bracketed(kind, random)));
+        cases.extend((0..18).flat_map(|_| met(kind, random)));
         cases.extend(single_readings(kind, random));
-        cases.extend(doubled(kind, random));
-        cases.extend(long(kind, random));
-        cases.extend(mixed(kind, random));
+        cases.extend((0..60).map(|turn| doubled(kind, random, turn)));
+        cases.extend((0..24).map(|turn| long(kind, random, turn)));
+        cases.extend((0..300).map(|_| mixed(kind, random)));
+    }
+    for kind in KINDS {
+        cases.extend(worked(kind));
     }
 
     let mut words = Words::default();
@@ -127,6 +131,87 @@ pub fn vectors() -> Words {
         write(&mut words, case);
     }
     words
+}
+
+/// Rows for the prover.
+pub fn rows(rows: &mut Rows, random: &mut Random) {
+    rows.table(
+        "summaries",
+        "sweeps that come in parts, refused ones among them; fed, and joined in some bracketing",
+    );
+    for kind in KINDS {
+        for joined in [false, true, true] {
+            let case = loop {
+                let lists = swung(kind, random, 6);
+                let mut calls = Vec::new();
+                if joined {
+                    build(kind, random, 0, 3, &lists, &mut calls);
+                } else {
+                    feed_all(kind, random, 0, &lists, &mut calls);
+                }
+                let joins = calls.iter().any(|call| matches!(call, Call::Join(..)));
+                if joins == joined && few_parts(&calls) {
+                    break Case { kind, calls };
+                }
+            };
+            row(rows, &case);
+        }
+    }
+}
+
+/// Rising frequencies, and values on both sides of what is crossed.
+fn swung(kind: Kind, random: &mut Random, n: usize) -> Lists {
+    let [rising, swinging] = [FREQUENCIES[0], LEVELS[4]];
+    let centres = match kind {
+        Bode => vec![0.0, HALF_TURN],
+        Sensitivity => vec![0.0, 0.0],
+        Curve => vec![-1.0, 0.0],
+    };
+    let mut lists = match kind {
+        Bode | Sensitivity => vec![rising(random, n, 0.0)],
+        Curve => Vec::new(),
+    };
+    lists.extend(centres.iter().map(|&centre| swinging(random, n, centre)));
+    lists
+}
+
+/// Whether the parts are few, none too long to be written out, and one is refused.
+fn few_parts(calls: &[Call]) -> bool {
+    let parts = calls.iter().filter_map(|call| match call {
+        Call::Feed(_, part) => Some(part),
+        _ => None,
+    });
+    let parts: Vec<_> = parts.collect();
+    parts.len() <= 6
+        && parts.iter().all(|part| part.pad == 0)
+        && parts.iter().any(|part| refusal(&part.lists).is_some())
+}
+
+fn row(rows: &mut Rows, case: &Case) {
+    let mut texts = [(); REGISTERS].map(|_| String::from("start"));
+    let mut books = Books::new(case.kind);
+    for call in &case.calls {
+        match call {
+            Call::Empty(at) => texts[*at] = String::from("start"),
+            Call::Feed(at, part) => {
+                let part = name(rows, case.kind, part.pad, &part.lists);
+                texts[*at] = format!("(feed {} {part})", texts[*at]);
+            }
+            Call::Join(at, other) => {
+                texts[*at] = format!("(join {} {})", texts[*at], texts[*other]);
+            }
+        }
+        books.enter(case.kind, call);
+    }
+    let questions: &[&str] = match case.kind {
+        Bode => &["gainOfSummary", "phaseOfSummary"],
+        Sensitivity => &["crossoverOfSummary", "bandwidthOfSummary"],
+        Curve => &["approachOfSummary"],
+    };
+    for (question, answer) in questions.iter().zip(answers(case.kind, &books.0[0])) {
+        let value: Vec<_> = answer.ok().flatten().into_iter().collect();
+        rows.row(&format!("{question} {}", texts[0]), number(answer), &value);
+    }
 }
 
 fn write(words: &mut Words, case: &Case) {
@@ -181,18 +266,26 @@ fn write_call(words: &mut Words, call: &Call) {
 
 /// What the Rust answers on the book's list. Only a bandwidth is not kept, where the book has a
 /// join.
-fn answers(kind: Kind, book: &Book) -> Vec<Answer> {
+pub fn answers(kind: Kind, book: &Book) -> Vec<Answer> {
+    match book.len() {
+        0..=SHORT => answers_in::<SHORT>(kind, book),
+        0..=PART => answers_in::<PART>(kind, book),
+        _ => answers_in::<ROOM>(kind, book),
+    }
+}
+
+fn answers_in<const N: usize>(kind: Kind, book: &Book) -> Vec<Answer> {
     let lists = &book.lists;
     match kind {
         Bode => {
-            let data = bode_data::<ROOM>([&lists[0], &lists[1], &lists[2]]);
+            let data = bode_data::<N>([&lists[0], &lists[1], &lists[2]]);
             vec![
                 Ok(gain_crossover_frequency(&data)),
                 Ok(phase_crossover_frequency(&data)),
             ]
         }
         Sensitivity => {
-            let data = sensitivity_data::<ROOM>([&lists[0], &lists[1], &lists[2]]);
+            let data = sensitivity_data::<N>([&lists[0], &lists[1], &lists[2]]);
             let kept = if book.joined {
                 Err(NOT_KEPT)
             } else {
@@ -201,10 +294,31 @@ fn answers(kind: Kind, book: &Book) -> Vec<Answer> {
             vec![Ok(sensitivity_crossover(&data)), kept]
         }
         Curve => {
-            let data = nyquist_data::<ROOM>([&lists[0], &lists[1]]);
+            let data = nyquist_data::<N>([&lists[0], &lists[1]]);
             vec![Ok(Some(distance_to_critical(&data)))]
         }
     }
+}
+
+/// Document 01's worked sweeps, and the smallest ones that show a rule, cut at every place.
+fn worked(kind: Kind) -> Vec<Case> {
+    let mut cases = Vec::new();
+    for lists in worked_lists(kind) {
+        let n = lists[0].len();
+        for cut in 0..=n {
+            let feed = |at: usize, start: usize, end: usize| {
+                let part = slice(&lists, start, end);
+                Call::Feed(at, part)
+            };
+            for calls in [
+                vec![feed(0, 0, cut), feed(0, cut, n)],
+                vec![feed(0, 0, cut), feed(1, cut, n), Call::Join(0, 1)],
+            ] {
+                cases.push(Case { kind, calls });
+            }
+        }
+    }
+    cases
 }
 
 /// Readings in the styles of the scans.
@@ -300,30 +414,22 @@ fn build(
 }
 
 /// One register that is fed.
-fn fed(kind: Kind, random: &mut Random) -> Vec<Case> {
-    let mut cases = Vec::new();
-    for _ in 0..220 {
-        let n = length(random);
-        let lists = drawn(kind, random, n);
-        let mut calls = Vec::new();
-        feed_all(kind, random, 0, &lists, &mut calls);
-        cases.push(Case { kind, calls });
-    }
-    cases
+pub fn fed(kind: Kind, random: &mut Random) -> Case {
+    let n = length(random);
+    let lists = drawn(kind, random, n);
+    let mut calls = Vec::new();
+    feed_all(kind, random, 0, &lists, &mut calls);
+    Case { kind, calls }
 }
 
-/// Joins in every bracketing.
-fn bracketed(kind: Kind, random: &mut Random) -> Vec<Case> {
-    let mut cases = Vec::new();
-    for _ in 0..260 {
-        let n = length(random);
-        let lists = drawn(kind, random, n);
-        let mut calls = Vec::new();
-        let depth = 1 + random.below(5) as usize;
-        build(kind, random, 0, depth, &lists, &mut calls);
-        cases.push(Case { kind, calls });
-    }
-    cases
+/// Joins in any bracketing.
+pub fn bracketed(kind: Kind, random: &mut Random) -> Case {
+    let n = length(random);
+    let lists = drawn(kind, random, n);
+    let mut calls = Vec::new();
+    let depth = 1 + random.below(5) as usize;
+    build(kind, random, 0, depth, &lists, &mut calls);
+    Case { kind, calls }
 }
 
 /// Every way to put `second` behind `first`: fed, joined, with an empty one or a refused part
@@ -366,19 +472,14 @@ fn ways(kind: Kind, random: &mut Random, first: &Lists, second: &Lists) -> Vec<V
 }
 
 /// The crossing lies where the parts meet, and no part has it.
-fn met(kind: Kind, random: &mut Random) -> Vec<Case> {
-    let mut cases = Vec::new();
-    for _ in 0..18 {
-        let [m, n] = [(); 2].map(|_| 1 + random.below(5) as usize);
-        let (first, second) = match kind {
-            Bode | Sensitivity => two_sides(kind, random, m, n),
-            Curve => (drawn(kind, random, m), drawn(kind, random, n)),
-        };
-        for calls in ways(kind, random, &first, &second) {
-            cases.push(Case { kind, calls });
-        }
-    }
-    cases
+pub fn met(kind: Kind, random: &mut Random) -> Vec<Case> {
+    let [m, n] = [(); 2].map(|_| 1 + random.below(5) as usize);
+    let (first, second) = match kind {
+        Bode | Sensitivity => two_sides(kind, random, m, n),
+        Curve => (drawn(kind, random, m), drawn(kind, random, n)),
+    };
+    let ways = ways(kind, random, &first, &second);
+    ways.into_iter().map(|calls| Case { kind, calls }).collect()
 }
 
 /// Two sweeps whose levels lie on different sides. In a sweep of S and T, T also falls by 3 dB
@@ -418,7 +519,7 @@ fn two_sides(kind: Kind, random: &mut Random, m: usize, n: usize) -> (Lists, Lis
 }
 
 /// Two readings, each a part, with values at what is crossed and next to it.
-fn single_readings(kind: Kind, random: &mut Random) -> Vec<Case> {
+pub fn single_readings(kind: Kind, random: &mut Random) -> Vec<Case> {
     let about = |centre: f64| {
         [
             centre,
@@ -453,112 +554,100 @@ fn single_readings(kind: Kind, random: &mut Random) -> Vec<Case> {
 }
 
 /// Registers joined with themselves: the last reading and the first become neighbours.
-fn doubled(kind: Kind, random: &mut Random) -> Vec<Case> {
-    let mut cases = Vec::new();
-    for turn in 0..60 {
-        let n = random.below(6) as usize;
-        let lists = drawn(kind, random, n);
-        let at = random.below(2) as usize;
-        let mut calls = Vec::new();
-        feed_all(kind, random, at, &lists, &mut calls);
-        for _ in 0..1 + turn % 3 {
-            calls.push(Call::Join(at, at));
-        }
-        if at > 0 {
-            calls.push(Call::Join(0, at));
-        }
-        if turn % 2 == 0 {
-            let more = drawn(kind, random, n);
-            calls.push(Call::Feed(0, all(&more)));
-        }
-        cases.push(Case { kind, calls });
+pub fn doubled(kind: Kind, random: &mut Random, turn: u64) -> Case {
+    let n = random.below(6) as usize;
+    let lists = drawn(kind, random, n);
+    let at = random.below(2) as usize;
+    let mut calls = Vec::new();
+    feed_all(kind, random, at, &lists, &mut calls);
+    for _ in 0..1 + turn % 3 {
+        calls.push(Call::Join(at, at));
     }
-    cases
+    if at > 0 {
+        calls.push(Call::Join(0, at));
+    }
+    if turn % 2 == 0 {
+        let more = drawn(kind, random, n);
+        calls.push(Call::Feed(0, all(&more)));
+    }
+    Case { kind, calls }
 }
 
 /// Books of more readings than a part may have.
-fn long(kind: Kind, random: &mut Random) -> Vec<Case> {
-    let mut cases = Vec::new();
-    for turn in 0..24 {
-        // Before what is drawn a reading is repeated; above all one that crosses nothing by itself.
-        let quiet = match kind {
-            Bode => [0.01, 30.0, -100.0],
-            Sensitivity => [0.01, -30.0, 0.0],
-            Curve => [3.0, 2.0, 0.0],
-        };
-        let mut part = |total: usize| {
-            let mut lists = drawn(kind, random, 4);
-            if turn % 4 > 0 {
-                for (list, first) in lists.iter_mut().zip(quiet) {
-                    list[0] = first;
-                }
+pub fn long(kind: Kind, random: &mut Random, turn: u64) -> Case {
+    // Before what is drawn a reading is repeated; above all one that crosses nothing by itself.
+    let quiet = match kind {
+        Bode => [0.01, 30.0, -100.0],
+        Sensitivity => [0.01, -30.0, 0.0],
+        Curve => [3.0, 2.0, 0.0],
+    };
+    let mut part = |total: usize| {
+        let mut lists = drawn(kind, random, 4);
+        if turn % 4 > 0 {
+            for (list, first) in lists.iter_mut().zip(quiet) {
+                list[0] = first;
             }
-            let pad = total - 4;
-            Part { pad, lists }
-        };
-        let [a, b] = [part(PART), part(PART)];
-        let few = part(1500);
-        let more = part(4);
-        let calls = match turn % 3 {
-            0 => vec![
-                Call::Feed(0, a),
-                Call::Feed(0, few),
-                Call::Feed(0, b),
-                Call::Feed(0, more),
-            ],
-            1 => vec![
-                Call::Feed(1, a),
-                Call::Feed(2, b),
-                Call::Join(1, 2),
-                Call::Feed(0, more),
-                Call::Join(0, 1),
-                Call::Feed(0, few),
-            ],
-            _ => vec![
-                Call::Feed(2, a),
-                Call::Join(2, 2),
-                Call::Join(0, 2),
-                Call::Feed(0, few),
-                Call::Feed(0, more),
-            ],
-        };
-        cases.push(Case { kind, calls });
-    }
-    cases
+        }
+        let pad = total - 4;
+        Part { pad, lists }
+    };
+    let [a, b] = [part(PART), part(PART)];
+    let few = part(1500);
+    let more = part(4);
+    let calls = match turn % 3 {
+        0 => vec![
+            Call::Feed(0, a),
+            Call::Feed(0, few),
+            Call::Feed(0, b),
+            Call::Feed(0, more),
+        ],
+        1 => vec![
+            Call::Feed(1, a),
+            Call::Feed(2, b),
+            Call::Join(1, 2),
+            Call::Feed(0, more),
+            Call::Join(0, 1),
+            Call::Feed(0, few),
+        ],
+        _ => vec![
+            Call::Feed(2, a),
+            Call::Join(2, 2),
+            Call::Join(0, 2),
+            Call::Feed(0, few),
+            Call::Feed(0, more),
+        ],
+    };
+    Case { kind, calls }
 }
 
 /// Any calls on any registers.
-fn mixed(kind: Kind, random: &mut Random) -> Vec<Case> {
-    let mut cases = Vec::new();
-    for _ in 0..300 {
-        let mut calls = Vec::new();
-        let mut books = Books::new(kind);
-        for _ in 0..4 + random.below(12) {
-            let [at, other] = [(); 2].map(|_| random.below(REGISTERS as u64) as usize);
-            let call = match random.below(12) {
-                0 => Call::Empty(at),
-                1 => Call::Feed(at, refused(kind, random)),
-                2..=6 => {
-                    let n = random.below(4) as usize;
-                    Call::Feed(at, all(&drawn(kind, random, n)))
-                }
-                _ => Call::Join(at, other),
-            };
-            if let Call::Join(..) = call {
-                if books.0[at].len() + books.0[other].len() > PART {
-                    continue;
-                }
+pub fn mixed(kind: Kind, random: &mut Random) -> Case {
+    let mut calls = Vec::new();
+    let mut books = Books::new(kind);
+    for _ in 0..4 + random.below(12) {
+        let [at, other] = [(); 2].map(|_| random.below(REGISTERS as u64) as usize);
+        let call = match random.below(12) {
+            0 => Call::Empty(at),
+            1 => Call::Feed(at, refused(kind, random)),
+            2..=6 => {
+                let n = random.below(4) as usize;
+                Call::Feed(at, all(&drawn(kind, random, n)))
             }
-            books.enter(kind, &call);
-            calls.push(call);
+            _ => Call::Join(at, other),
+        };
+        if let Call::Join(..) = call {
+            if books.0[at].len() + books.0[other].len() > PART {
+                continue;
+            }
         }
-        // Only register 0 is asked: often it is to have what another one has.
-        if random.below(2) == 0 {
-            calls.push(Call::Join(0, 1 + random.below(3) as usize));
-        }
-        cases.push(Case { kind, calls });
+        books.enter(kind, &call);
+        calls.push(call);
     }
-    cases
+    // Only register 0 is asked: often it is to have what another one has.
+    if random.below(2) == 0 {
+        calls.push(Call::Join(0, 1 + random.below(3) as usize));
+    }
+    Case { kind, calls }
 }
 
 /// No call; no reading; a bandwidth that is kept, that is not, and that is kept again.
