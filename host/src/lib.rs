@@ -17,10 +17,10 @@
 //! # The programs beside it
 //!
 //! `bazintroa` is the one that people use: margins of a sweep, responses and root locus of a loop.
-//! `compare_sqrt` and `bench_sqrt` hold the square root against the processor's. `compare` and `bench`
-//! hold everything against the Rust; they have the feature `oracle` and are built and run by
-//! `tools/oracle/run`, which has the Rust. `damage` calls with damaged and random arguments, to be
-//! watched by valgrind, which must report nothing:
+//! `compare_sqrt` holds the square root against the processor's. `compare` and `bench` hold everything
+//! against the Rust; they have the feature `oracle` and are built and run by `tools/oracle/run`, which
+//! has the Rust. `damage` calls with damaged and random arguments, to be watched by valgrind, which
+//! must report nothing:
 //!
 //! ```text
 //! cargo build --release --bin damage
