@@ -1,19 +1,16 @@
 -- The scan over a slice of readings gives what the scan over its three lists gives. Assumes nothing.
 use Prim.Native.Nat.{ℕ, suc, _+_, _<_, _≤_, zero-le}
-use mathlib.Core.Path.{_≡_, refl, sym, ap, subst, _∙_}
-use mathlib.Core.Bool.{Bool, true, false, cond, _&&_, _||_}
+use mathlib.Core.Path.{_≡_, refl, sym, ap, _∙_}
+use mathlib.Core.Bool.{Bool, true, false, cond}
 use mathlib.Core.List.{List, [], _∷_}
 use native.Mathlib.Numerals.{add-one}
 use native.Mathlib.Omega.{arith}
 use borrow.Author.Tests.{eq-eqb, lt-ltb, le-ltb, ltb-false}
-use lib.Dec.{T, ltb}
-use lib.Ieee.{Float, nan, le, lt, eq, ne, ofBits}
-use lib.Ieee.Compare.{differs-from-itself}
+use lib.Dec.{ltb}
+use lib.Ieee.{le, lt, eq, ofBits}
 use lib.ListN.{length, length-map, getD}
 use lib.Seq.{take-length, slice, slice-empty, slice-cons}
 use Rattle.laws.specs.Outcome.{when}
-use Rattle.laws.proofs.Order.{le-of-lt, not-le-of-lt}
-use Rattle.scalar.specs.Scalar.{f0}
 use Rattle.sweep.specs.Refusal.{scanRefusal, listsRefusal}
 use Rattle.sweep.specs.Answer.{scanned}
 use Rattle.sweep.specs.Scan.{orElse, firstFrom, crossIf, crossesBy, scannedBy}
@@ -35,47 +32,6 @@ readings-back (r ∷ rs) = ap (λ (l : List Reading). r ∷ l) (readings-back rs
 pub lists-refused : (rs : List Reading) → listsRefusal (omegas rs) (dbs rs) (phases rs) ≡ when (ltb 4096 (length rs)) 15 0
 unfolding listsRefusal scanRefusal
 lists-refused rs = rw (length-map, length-map, length-map) (rw (eq-eqb (length rs) (length rs) refl))
-
--- ---- a dB value that is not 0 tells on which side the other must lie
-
-true-is : (b : Bool) → T b → b ≡ true
-true-is true h = refl
-true-is false h = absurd h
-
-or-false : (p q : Bool) → q ≡ ((p && false) || (q && true))
-or-false true true = refl
-or-false true false = refl
-or-false false true = refl
-or-false false false = refl
-
-or-true : (p q : Bool) → p ≡ ((p && true) || (q && false))
-or-true true q = refl
-or-true false true = refl
-or-true false false = refl
-
-both-false : (p q : Bool) → false ≡ ((p && false) || (q && false))
-both-false true true = refl
-both-false true false = refl
-both-false false true = refl
-both-false false false = refl
-
-pub crosses-up : (a b : Float) → lt f0 b ≡ true → le a f0 ≡ crossesBy Zero a b
-crosses-up a b h = rw (true-is (le f0 b) (le-of-lt f0 b h), not-le-of-lt f0 b h) (or-false (le f0 a) (le a f0))
-
-pub crosses-down : (a b : Float) → lt b f0 ≡ true → le f0 a ≡ crossesBy Zero a b
-crosses-down a b h = rw (true-is (le b f0) (le-of-lt b f0 h), not-le-of-lt b f0 h) (or-true (le f0 a) (le a f0))
-
--- a NaN crosses nothing
-nan-above : le f0 nan ≡ false
-unfolding le ofBits
-nan-above = refl
-
-nan-below : le nan f0 ≡ false
-unfolding le ofBits
-nan-below = refl
-
-pub crosses-never : (a b : Float) → ne b b ≡ true → false ≡ crossesBy Zero a b
-crosses-never a b h = rw (differs-from-itself b (subst T (sym h) tt), nan-above, nan-below) (both-false (le f0 a) (le a f0))
 
 -- ---- the scan. While it is not at its end, the readings that are left say where it crosses, behind the last; at its end the last two do.
 

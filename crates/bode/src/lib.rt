@@ -6,9 +6,8 @@ ghost use mathlib.Core.Bool.{true};
 ghost use Prim.Native.Nat.{_<_};
 ghost use lib.ListN.{length};
 ghost use Rattle.sweep.specs.Refusal.{SameLength, scanRefusal};
-ghost use Rattle.sweep.specs.declared.Sought.the-variants.{Zero};
 ghost use Rattle.sweep.specs.Answer.{outcomeOf, scanned};
-ghost use Rattle.sweep.specs.Scan.{firstPair, at3, scannedBy, crossesBy};
+ghost use Rattle.sweep.specs.Scan.{firstPair, at3, scannedBy};
 ghost use Rattle.bode.specs.Bode.{reading, readings, gainBetween, gainPair, phaseBetween, gainCrossover, phaseCrossover, partOfWay, valueAt, gainMarginPair, phaseMarginPair, gainMargin, phaseMargin};
 ghost use Rattle.bode.specs.Readings.{omegas, dbs, phases, scanLength, begun, taken};
 pub use summary::BodeFed;
@@ -200,23 +199,6 @@ struct GainScan {
     end: usize,
 }
 
-// Whether one of two dB values is at or above 0 and the other at or below, told by the second where it is not 0. A NaN
-// crosses nothing.
-fn crosses_0_db(a: f64, b: f64) -> bool
-    ensures { λ r. ⌜ r ≡ crossesBy Zero a b ⌝ }
-{
-    if b > 0.0 {
-        return a <= 0.0;
-    }
-    if b < 0.0 {
-        return a >= 0.0;
-    }
-    if b != b {
-        return false;
-    }
-    sweep::crosses(Sought::Zero, a, b)
-}
-
 // How many of n readings are scanned: none where there are too many.
 fn scan_length(n: usize) -> usize
     ensures { λ r. ⌜ r ≡ scanLength n ⌝ }
@@ -246,7 +228,7 @@ fn take_reading(s: GainScan, r: Reading) -> GainScan
     ensures { λ t. ⌜ t ≡ taken s r ⌝ }
 {
     let last = s.last;
-    if crosses_0_db(last.db, r.db) {
+    if sweep::crosses(Sought::Zero, last.db, r.db) {
         return GainScan {
             earlier: last,
             last: r,
@@ -264,7 +246,7 @@ fn take_reading(s: GainScan, r: Reading) -> GainScan
 fn gain_pair(a: Reading, b: Reading) -> Crossing
     ensures { λ r. ⌜ r ≡ gainPair a b ⌝ }
 {
-    if crosses_0_db(a.db, b.db) {
+    if sweep::crosses(Sought::Zero, a.db, b.db) {
         return Crossing::At(gain_between(a, b));
     }
     Crossing::Missing

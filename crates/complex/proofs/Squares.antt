@@ -1,13 +1,14 @@
 -- A squared magnitude is a value of the format, and a NaN or not below zero. Assumes nothing.
-use Prim.Native.Nat.{ℕ, zero, suc, _+_, _-_, _*_, _/_, _%_, _^_, compare}
-use mathlib.Core.Path.{_≡_, refl, sym, subst}
-use mathlib.Core.Bool.{Bool, true, false, not, cond}
+use Prim.Native.Nat.{ℕ, _-_, _*_}
+use mathlib.Core.Path.{_≡_, refl}
+use mathlib.Core.Bool.{Bool, true, false, not}
 use native.Mathlib.Nat.{zero-mul}
 use native.Mathlib.Omega.{arith}
 use borrow.Author.Tests.{le-ltb}
-use lib.Dec.{T, ltb}
-use lib.Ieee.{Float, nan, inf, fin, Format, binary64, up, down, low, prec, emax, size, nearest, units, odd, round, sum, add, mul, lt, fits, ofBits}
-use lib.Ieee.Fits.{round-is, add-fits}
+use lib.Dec.{T}
+use lib.Ieee.{Float, nan, inf, fin, Format, binary64, up, down, round, sum, add, mul, lt, fits, ofBits}
+use lib.Ieee.Fits.{add-fits}
+use Rattle.laws.proofs.Signs.{signed, round-signed}
 use Rattle.scalar.specs.Scalar.{f0}
 use Rattle.complex.specs.Complex.{magnitudeSq}
 use Rattle.complex.specs.declared.Complex.{Complex}
@@ -21,24 +22,14 @@ unsigned (fin s m e) = not s
 module _ (f : Format) where
   -- what is rounded without a sign gets none
   round-unsigned : (a c : ℕ) → T (unsigned (round f false a c))
-  round-unsigned a c =
-      let n = a * 2 ^ low f in
-      let k = size (n / c) - prec f in
-      let u = c * 2 ^ k in
-      subst (λ (x : Float). T (unsigned x)) (sym (round-is f false a c)) (of-units (nearest (n / u) (compare (n % u * 2) u)) k)
+  round-unsigned a c = go (round f false a c) (round-signed f false a c)
     where
-      of-odd : (d q k l : ℕ) → T (unsigned (odd d false q k l))
-      of-odd d zero k l = unfold odd in tt
-      of-odd d (suc q) k l = unfold odd in tt
-
-      either : (b : Bool) (x y : Float) → T (unsigned x) → T (unsigned y) → T (unsigned (cond b x y))
-      either true x y h k = h
-      either false x y h k = k
-
-      of-units : (q k : ℕ) → T (unsigned (units f false q k))
-      of-units q k =
-          unfold units in
-          either (ltb (q * 2 ^ k) (2 ^ (low f + suc (emax f)))) (odd (suc (prec f)) false q k (low f)) (inf false) (of-odd (suc (prec f)) q k (low f)) tt
+      go : (x : Float) → T (signed false x) → T (unsigned x)
+      go nan h = absurd h
+      go (inf true) h = absurd h
+      go (inf false) h = tt
+      go (fin true m e) h = absurd h
+      go (fin false m e) h = tt
 
   square-unsigned : (x : Float) → T (unsigned (mul f x x))
   unfolding mul

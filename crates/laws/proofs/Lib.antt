@@ -4,3 +4,4 @@ pub mod Choice
 pub mod Outcome
 pub mod Least
 pub mod Tables
+pub mod Signs

@@ -1,3 +1,4 @@
+pub mod Patterns
 pub mod Decoded
 pub mod Places
 pub mod Replies

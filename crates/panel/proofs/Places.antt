@@ -1,16 +1,18 @@
 -- The scan that goes by places of bytes: at a value of reading k it is at 24 * k + place. Assumes nothing.
-use Prim.Native.Nat.{ℕ, zero, _+_, _*_, _-_, _/_, _<_, _≤_}
-use mathlib.Core.Path.{_≡_, refl, sym}
+use Prim.Native.Nat.{ℕ, zero, _+_, _*_, _-_, _/_, _%_, _<_, _≤_}
+use mathlib.Core.Path.{_≡_, refl, sym, ap}
 use mathlib.Core.Bool.{Bool, true, false}
 use mathlib.Core.List.{List}
 use native.Mathlib.Omega.{arith}
 use lib.ListN.{length}
-use lib.Ieee.{Float}
-use Rattle.wire.specs.Bytes.{f64At}
+use lib.Ieee.{Float, binary64, ofBits}
+use Rattle.wire.specs.Bytes.{u64At, f64At}
 use Rattle.sweep.specs.Scan.{crossesBy, firstWhere}
 use Rattle.sweep.specs.declared.Sought.{Sought}
 use Rattle.sweep.proofs.Search.{search-next, search-hit, search-end}
-use Rattle.panel.specs.Asked.{Whole, crossAt, firstPlace}
+use Rattle.panel.specs.Asked.{placeOf, Whole, crossAt, firstPlace}
+use Rattle.panel.specs.declared.Asked.{Asked}
+use Rattle.panel.specs.declared.Asked.the-variants.{Gain, Phase}
 
 -- The scan is at a value a: what is left to look through gives the whole search's outcome.
 pub record Scanning (sought : Sought) (place : ℕ) (b : List ℕ) (at : ℕ) (a : Float) : Type 0 where
@@ -18,6 +20,11 @@ pub record Scanning (sought : Sought) (place : ℕ) (b : List ℕ) (at : ℕ) (a
   pub there : at + 8 ≤ length b
   pub value : a ≡ f64At b at
   pub left : firstWhere (crossAt sought place b) (length b / 24 - 1 - at / 24) (at / 24) ≡ firstPlace sought place b
+
+-- the place of the value that tells
+pub whole-readings : {b : List ℕ} (asked : Asked) → length b % 24 ≡ 0 → Whole (placeOf asked) b
+whole-readings Gain h = record { whole = h; inside = omega arith }
+whole-readings Phase h = record { whole = h; inside = omega arith }
 
 module _ (sought : Sought) (place : ℕ) (b : List ℕ) (w : Whole place b) where
   -- fewer than two readings
@@ -58,3 +65,8 @@ module _ (sought : Sought) (place : ℕ) (b : List ℕ) (w : Whole place b) wher
 
     pub scan-end : length b - 8 < at + 24 → at / 24 ≡ firstPlace sought place b
     scan-end h = search-end (crossAt sought place b) (length b / 24 - 1) (s .left) (omega arith)
+
+-- the number of a pattern that was read
+pub pattern-read : {n : ℕ} (b : List ℕ) (at : ℕ) → n ≡ u64At b at → ofBits binary64 n ≡ f64At b at
+unfolding f64At
+pattern-read b at e = ap (ofBits binary64) e

@@ -3,11 +3,15 @@
 ghost use mathlib.Core.Path.{_≡_};
 ghost use Prim.Native.Nat.{_+_, _*_, _%_, _≤_};
 ghost use lib.ListN.{length};
+ghost use lib.Ieee.{binary64, ofBits};
 ghost use Rattle.sweep.specs.Refusal.{refusalOf};
 ghost use Rattle.sweep.specs.Answer.{crossingOutcome};
+ghost use Rattle.sweep.specs.Scan.{crossesBy};
+ghost use Rattle.sweep.specs.declared.Sought.the-variants.{Zero};
 ghost use Rattle.bode.specs.Bode.{gainCrossover, phaseCrossover};
 ghost use Rattle.panel.specs.Panel.{readingAt, decoded, panelRefusal, panelOutcome, Replies};
-ghost use Rattle.panel.specs.Asked.{crossoverOf, betweenOf, Whole, firstPlace, firstOf};
+ghost use Rattle.panel.specs.Asked.{crossoverOf, betweenOf, firstOf};
+ghost use Rattle.panel.specs.declared.Asked.the-variants.{Gain, Phase};
 use bode::Reading;
 use sweep::Check;
 use sweep::Crossing;
@@ -43,22 +47,57 @@ fn reading_at(readings: &[u8], i: usize) -> Reading
     }
 }
 
-// The first reading that has what is sought with the one behind it, by the values at a place of their bytes: the last
-// reading where none has. The loop's test is the one that `f64_at` makes, so that it is made once for each value.
-fn first_place(sought: Sought, place: usize, readings: &[u8]) -> usize
-    requires { ⌜ Whole place (now readings) ⌝ }
-    ensures { λ r. ⌜ r ≡ firstPlace sought place (now (readings .entry)) ⌝ }
+// Whether two values cross 0, by their bit patterns. They are read as numbers only where they have two signs or one is 0.
+fn crosses_zero(a: u64, b: u64) -> bool
+    ensures { λ r. ⌜ r ≡ crossesBy Zero (ofBits binary64 a) (ofBits binary64 b) ⌝ }
+{
+    let sign = 0x8000_0000_0000_0000;
+    let same = (sign <= a) == (sign <= b);
+    if same & (a % sign != 0) & (b % sign != 0) {
+        return false;
+    }
+    sweep::crosses(Sought::Zero, wire::f64_from_bits(a), wire::f64_from_bits(b))
+}
+
+// The first reading whose magnitude crosses 0 dB with that of the one behind it: the last reading where none does. The
+// loop's test is the one that `u64_at` makes, so that it is made once for each value.
+fn first_gain(readings: &[u8]) -> usize
+    requires { ⌜ length (now readings) % 24 ≡ 0 ⌝ }
+    ensures { λ r. ⌜ r ≡ firstOf Gain (now (readings .entry)) ⌝ }
 {
     let n = readings.len();
     if n < 48 {
         return 0;
     }
     let last = n - 8;
-    let mut at = place;
+    let mut at: usize = 8;
+    let mut a = wire::u64_at(readings, at);
+    while at + 24 <= last {
+        let b = wire::u64_at(readings, at + 24);
+        if crosses_zero(a, b) {
+            return at / 24;
+        }
+        a = b;
+        at += 24;
+    }
+    at / 24
+}
+
+// The same of the phase and -180 degrees.
+fn first_phase(readings: &[u8]) -> usize
+    requires { ⌜ length (now readings) % 24 ≡ 0 ⌝ }
+    ensures { λ r. ⌜ r ≡ firstOf Phase (now (readings .entry)) ⌝ }
+{
+    let n = readings.len();
+    if n < 48 {
+        return 0;
+    }
+    let last = n - 8;
+    let mut at: usize = 16;
     let mut a = wire::f64_at(readings, at);
     while at + 24 <= last {
         let b = wire::f64_at(readings, at + 24);
-        if sweep::crosses(sought, a, b) {
+        if sweep::crosses(Sought::Level(-180.0), a, b) {
             return at / 24;
         }
         a = b;
@@ -73,8 +112,8 @@ fn first_of(asked: Asked, readings: &[u8]) -> usize
     ensures { λ r. ⌜ r ≡ firstOf asked (now (readings .entry)) ⌝ }
 {
     match asked {
-        Asked::Gain => first_place(Sought::Zero, 8, readings),
-        Asked::Phase => first_place(Sought::Level(-180.0), 16, readings),
+        Asked::Gain => first_gain(readings),
+        Asked::Phase => first_phase(readings),
     }
 }
 

@@ -212,11 +212,17 @@ pub enum Sought {
     Enclosing(f64),
 }
 
-// Whether one of a and b is at or above 0, and the other at or below. In a scan the branches, which are the Rust's, are
-// quicker than four tests joined.
+// Whether one of a and b is at or above 0, and the other at or below. Most neighbours in a sweep lie on one side, which
+// their product tells by one test; the Rust's tests are left for the others.
 fn crosses_zero(a: f64, b: f64) -> bool
     ensures { λ r. ⌜ r ≡ crossesBy Zero a b ⌝ }
 {
+    if a * b > 0.0 {
+        return false;
+    }
+    if b != b {
+        return false;
+    }
     if a >= 0.0 {
         if b <= 0.0 {
             return true;
