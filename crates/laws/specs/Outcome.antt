@@ -1,5 +1,5 @@
 -- What a call comes to, in the numbers of document 01: the form in which every public promise about an enum is stated.
--- 0 is a result, with its values; 100 is "none", with no value; any other number is a refusal, with no value.
+-- 0 is a result, with its values. Every other number has no value: 100 is "none", 101 "not kept", and the others are refusals.
 use Prim.Native.Nat.{ℕ}
 use mathlib.Core.Path.{_≡_}
 use mathlib.Core.Bool.{Bool, cond}

@@ -13,7 +13,7 @@ use complex::Complex;
 use sweep::Check;
 use sweep::FreqError;
 
-// The point nearest to (-1, 0), if there is one whose distance is finite.
+// The point nearest to (-1, 0), if there is one whose squared distance is finite.
 pub enum Nearest {
     Nowhere,
     Point(Complex),

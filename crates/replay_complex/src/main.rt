@@ -54,11 +54,11 @@ fn answer(question: u64, tally: Tally) -> Tally {
         first: vectors::number(),
         second: vectors::number(),
     };
-    tally.count(question, right(question, x, y, e))
+    let known = if question < 13 { question } else { 0 };
+    tally.count(known, right(question, x, y, e))
 }
 
-// A proved loop ends, and nothing says that the input does: the records are counted down from a number that no
-// file reaches.
+// A proved loop ends, and nothing says that the input does: at most a million records are read, more than any file has.
 fn run() -> Tally {
     let mut tally = Tally::new();
     for turn in 0..1000000u64 {

@@ -70,14 +70,14 @@ fn answer(question: u64, tally: Tally) -> Tally {
     let n = vectors::number();
     let room = vectors::number();
     let mut list = [0.0; 4200];
+    let known = if question < 3 { question } else { 0 };
     tally.count(
-        question,
+        known,
         ask_part(question, top, n, room as usize, &mut list),
     )
 }
 
-// A proved loop ends, and nothing says that the input does: the cases are counted down from a number that no
-// file reaches.
+// A proved loop ends, and nothing says that the input does: at most a million cases are read, more than any file has.
 fn run() -> Tally {
     let mut tally = Tally::new();
     for turn in 0..1000000u64 {

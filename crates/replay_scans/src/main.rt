@@ -81,8 +81,7 @@ fn answer(kind: u64, tally: Tally) -> Tally {
     ask(kind, &a[..i], &b[..j], &c[..k], tally)
 }
 
-// A proved loop ends, and nothing says that the input does: the cases are counted down from a number that no
-// file reaches.
+// A proved loop ends, and nothing says that the input does: at most a million cases are read, more than any file has.
 fn run() -> Tally {
     let mut tally = Tally::new();
     for turn in 0..1000000u64 {

@@ -275,8 +275,7 @@ fn answer(kind: u64, tally: Tally) -> Tally {
     calls(kind, count, tally).ask(kind)
 }
 
-// A proved loop ends, and nothing says that the input does: the cases are counted down from a number that no
-// file reaches.
+// A proved loop ends, and nothing says that the input does: at most a million cases are read, more than any file has.
 fn run() -> Tally {
     let mut tally = Tally::new();
     for turn in 0..1000000u64 {

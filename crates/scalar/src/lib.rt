@@ -60,7 +60,8 @@ fn root_above(m: u64) -> u64
     heron_step(m * 256, heron_step(m / 0x40_0000, estimate(m)) * 0x8000)
 }
 
-// The coefficients of a polynomial of the fourth degree, without their signs.
+// The coefficients of a polynomial of the fourth degree, from the constant on. Their signs are +, +, -, + and -; the
+// numbers here have none.
 struct Quartic(u64, u64, u64, u64, u64);
 
 // A polynomial near to the root of m * 2^8 on one of 16 parts, eight for each parity of the exponent: the
@@ -157,7 +158,8 @@ fn rounded_root(m: u64, s: u64, excess: u64) -> u64
     if d < root { root } else { root - 1 }
 }
 
-// The same from a guess at the root of m * 2^8, which need not be close: it is tested.
+// The same from a guess at the root of m * 2^8, which need not be close: it is tested. It is close enough where its
+// square is above m * 2^8 by 27 * 2^30 at most.
 fn nearest_root(m: u64, guess: u64) -> u64
     requires { ⌜ (2 ^ 52 ≤ m) × (m ≤ 2 ^ 54 - 2) × (guess < 2 ^ 32) ⌝ }
     ensures { λ r. ⌜ (2 ^ 52 ≤ r) × (r < 2 ^ 53) × ((k : ℕ) → rounded (m * 2 ^ 52 * 2 ^ (2 * k)) ≡ units binary64 false r k) ⌝ }
@@ -169,8 +171,8 @@ fn nearest_root(m: u64, guess: u64) -> u64
             return rounded_root(m, guess, excess);
         }
     }
-    // the remainders change nothing: they show the compiler how small both numbers are, so that its test
-    // for a shorter division, which the guess passes through too, costs less
+    // the remainders change nothing: they show the compiler how small both numbers are, which makes its own test for a
+    // shorter division cheaper, above too
     let s = root_above(m) % 0x1_0000_0000;
     rounded_root(m, s, (s * s - m * 256) % 0x20_0000_0000)
 }
@@ -195,8 +197,7 @@ fn radicand(b: u64) -> Scaled
     }
 }
 
-// The root of an x that is not finite and above zero: a NaN below zero, and x itself at a zero, +infinity
-// and a NaN.
+// The root of any x but a finite one above zero: a NaN below zero, and x itself at a zero, +infinity and a NaN.
 fn special(x: f64) -> f64
     requires { ⌜ positive x ≡ false ⌝ }
     ensures { λ r. ⌜ r ≡ sqrtOf x ⌝ }

@@ -1,5 +1,5 @@
-// What the entries share: the reasons for turning a call away, each with the number that document 01 gives it, and
-// what scans and grids answer.
+// What the entries share: the reasons for turning a call away, each with the number that document 01 gives it; what scans
+// and grids answer, also as plain numbers for a host; the first crossing among neighbours; interpolation.
 ghost use mathlib.Core.Path.{_≡_};
 ghost use Prim.Native.Nat.{_+_};
 ghost use lib.Dec.{ltb};
@@ -71,8 +71,8 @@ pub fn check_lists(a: &[f64], b: &[f64], c: &[f64]) -> Check
     check_scan(same, a.len())
 }
 
-// The conditions of a grid of n points up to `top` in a list of `room` places; `range` is the refusal of a top
-// that is not above 0.
+// The conditions of a grid of n points up to `top` in a list of `room` places; `range` is the refusal of a top of 0 or
+// below, which a NaN is not.
 pub fn check_grid(range: FreqError, n: usize, top: f64, room: usize) -> Check
     ensures { λ r. ⌜ refusalOf r ≡ gridRefusal (numberOf range) n top room ⌝ }
 {
@@ -97,7 +97,7 @@ pub enum Grid {
     Refused(FreqError),
 }
 
-// Where a curve crosses its level: at a frequency, or nowhere. The Rust's Option of a float.
+// The Rust's Option of a float: the frequency where a curve crosses its level, or the margin there, or none.
 pub enum Crossing {
     At(f64),
     Missing,
@@ -212,8 +212,8 @@ pub enum Sought {
     Enclosing(f64),
 }
 
-// Whether one of a and b is at or above 0, and the other at or below. Most neighbours in a sweep lie on one side, which
-// their product tells by one test; the Rust's tests are left for the others.
+// Whether one of a and b is at or above 0, and the other at or below. Most neighbours in a sweep lie on one side of 0,
+// which their product tells by one test, and a NaN crosses nothing; the Rust's tests are left for the others.
 fn crosses_zero(a: f64, b: f64) -> bool
     ensures { λ r. ⌜ r ≡ crossesBy Zero a b ⌝ }
 {

@@ -1,6 +1,6 @@
 // Support for the replay programs: the oracle's vectors are read from standard input, a word of eight bytes at a
-// time, and answers are counted. No contract can speak of what is read or written, so a function that reads or
-// writes promises nothing.
+// time, and answers are counted. No contract can speak of what is read or written: a function that reads promises at
+// most what becomes of a lent list's length.
 
 ghost use mathlib.Core.Path.{_≡_};
 ghost use Prim.Native.Nat.{_<_, _≤_};

@@ -1,4 +1,4 @@
--- The cases that document 01 works by hand, those with a star, row for row. Definitions only.
+-- The cases that document 01 works by hand, those with a star, row for row; then the same sweeps cut, fed and joined. Definitions only.
 use Prim.Native.Nat.{ℕ, _^_}
 use mathlib.Core.Bool.{true, false}
 use mathlib.Core.List.{List, [], _∷_}

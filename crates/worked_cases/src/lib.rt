@@ -1,2 +1,2 @@
-// No code. specs/ has two tables of cases and what they give, proofs/ one fact about all rows of each: the cases that
-// document 01 works by hand, and cases that the Rust was asked about.
+// No code. specs/ has the cases that document 01 works by hand and what they give, as one table; proofs/ has one fact
+// about all its rows. `checked_definitions` has another table of such cases.

@@ -1,6 +1,6 @@
 //! Evaluation and the four responses of a loop.
 
-use crate::timing::{folded, Row, Table, TARGET};
+use crate::timing::{folded, Row, Table};
 use bazintroa::{pairs, Complex, LoopShaping, Refusal, TransferFn};
 use oxictl::core::frequency_domain as rust;
 use oxictl_inner::core::frequency_domain::sensitivity::call_eval_tf_complex;
@@ -10,6 +10,8 @@ use vectors::coefficients::{stable, Coefficients};
 use vectors::random::Random;
 
 const FREQUENCIES: usize = 64;
+/// The largest ratio that is aimed at.
+const TARGET: f64 = 1.1;
 
 /// The cosines and sines of a frequency.
 type Pairs = [[f64; 9]; 2];

@@ -10,7 +10,7 @@ use std::hint::black_box;
 
 const N: usize = 4096;
 /// The largest ratio that is aimed at.
-const TARGET: f64 = 1.25;
+const TARGET: f64 = 1.2;
 
 fn bandwidth_of(summary: &SensitivitySummary) -> Option<f64> {
     match summary.bandwidth() {

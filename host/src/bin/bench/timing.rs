@@ -7,7 +7,7 @@ use std::time::{Duration, Instant};
 type Call<'a> = Box<dyn FnMut() -> u64 + 'a>;
 
 /// The largest ratio that is aimed at, where nothing else is said.
-pub const TARGET: f64 = 1.05;
+pub const TARGET: f64 = 1.0;
 
 /// As long one side of a round takes, at least.
 const ROUND: Duration = Duration::from_micros(40);
@@ -123,7 +123,9 @@ impl<'a> Row<'a> {
             Some(other) => {
                 let pairs = self.port.times.iter().zip(&other.times);
                 let ratio = median(pairs.map(|(port, other)| port / other).collect());
-                let above = if ratio > target { " (above)" } else { "" };
+                let hundredths = |ratio: f64| (100.0 * ratio).round();
+                let over = hundredths(ratio) > hundredths(target);
+                let above = if over { " (above)" } else { "" };
                 println!(" {:.3} | {ratio:.2}{above} |", nanoseconds(other));
             }
             None => println!(),

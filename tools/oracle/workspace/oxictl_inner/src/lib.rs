@@ -1,4 +1,4 @@
-//! The given files once more, each followed by doors to its private functions: a public
+//! The given files once more, each followed by public wrappers of its private functions: a public
 //! `call_f` calls `f` and does nothing else. Modules and names lie where the given text looks
 //! for them.
 
@@ -38,10 +38,6 @@ pub mod core {
                 k: f64,
             ) -> HVec<Complex<f64>, 8> {
                 compute_closed_loop_poles(tf, k)
-            }
-
-            pub fn call_find_polynomial_roots(coeffs: &[f64]) -> HVec<Complex<f64>, 8> {
-                find_polynomial_roots(coeffs)
             }
         }
 

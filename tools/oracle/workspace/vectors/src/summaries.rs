@@ -353,7 +353,7 @@ fn all(lists: &Lists) -> Part {
     slice(lists, 0, lists[0].len())
 }
 
-/// A part that is refused: one list is longer by one, or there are too many readings, or both.
+/// A part that is refused: one list is longer or shorter by one, or there are too many readings, or both.
 fn refused(kind: Kind, random: &mut Random) -> Part {
     let n = random.below(4) as usize;
     let mut lists = drawn(kind, random, n + 1);
