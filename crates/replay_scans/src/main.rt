@@ -1,5 +1,7 @@
 // Replays the oracle's vectors of the scans. Standard input is a list of cases; tools/oracle/README.md has their
 // format.
+ghost use Prim.Native.Nat.{_≤_};
+use bode::Reading;
 use sweep::Answer;
 use vectors::Tally;
 use vectors::Word;
@@ -21,7 +23,53 @@ fn skip() {
     vectors::number();
 }
 
-// The entry on reading structs, the fifth answer, is asked by the comparison in host/.
+fn float_at(list: &[f64], i: usize) -> f64 {
+    if i < list.len() { list[i] } else { 0.0 }
+}
+
+fn reading_at(omega: &[f64], db: &[f64], phase: &[f64], i: usize) -> Reading {
+    Reading {
+        omega: float_at(omega, i),
+        db: float_at(db, i),
+        phase: float_at(phase, i),
+    }
+}
+
+// The readings of a sweep, with zeros behind them.
+fn readings(omega: &[f64], db: &[f64], phase: &[f64]) -> [Reading; 5000] {
+    let none = Reading {
+        omega: 0.0,
+        db: 0.0,
+        phase: 0.0,
+    };
+    let mut rs = [none; 5000];
+    for i in 0usize..5000 {
+        rs[i] = reading_at(omega, db, phase, i);
+    }
+    rs
+}
+
+// What the scan over a slice of readings answers on the first n. The borrow checker covers no function that lends
+// structs: this one is proved by hand, and does nothing else.
+fn crossover(rs: [Reading; 5000], n: usize) -> Answer
+    requires { ⌜ n ≤ 5000 ⌝ }
+{
+    bode::gain_crossover_readings(&rs[..n])
+}
+
+// Lists of different lengths are no readings, and the answer is to nothing then.
+fn ask_readings(omega: &[f64], db: &[f64], phase: &[f64], tally: Tally) -> Tally {
+    let n = omega.len();
+    if n <= 5000 {
+        if (db.len() == n) & (phase.len() == n) {
+            let rs = readings(omega, db, phase);
+            return tally.count(8, expected(crossover(rs, n)));
+        }
+    }
+    skip();
+    tally
+}
+
 fn ask_bode(omega: &[f64], db: &[f64], phase: &[f64], tally: Tally) -> Tally {
     let asked = tally
         .count(
@@ -34,8 +82,7 @@ fn ask_bode(omega: &[f64], db: &[f64], phase: &[f64], tally: Tally) -> Tally {
         )
         .count(3, expected(bode::gain_margin(omega, db, phase)))
         .count(4, expected(bode::phase_margin(omega, db, phase)));
-    skip();
-    asked
+    ask_readings(omega, db, phase, asked)
 }
 
 fn ask_sensitivity(omega: &[f64], s: &[f64], t: &[f64], tally: Tally) -> Tally {
@@ -103,6 +150,7 @@ fn main() {
     tally.line(2, b"phase_crossover_frequency");
     tally.line(3, b"gain_margin");
     tally.line(4, b"phase_margin");
+    tally.line(8, b"gain_crossover_readings");
     tally.line(5, b"sensitivity_crossover");
     tally.line(6, b"bandwidth");
     tally.line(7, b"distance_to_critical");
