@@ -1,36 +1,27 @@
--- A crossover is missing exactly where no two neighbours cross. Assumes nothing.
+-- A scan says "none" exactly when no two neighbours cross. Assumes nothing.
 use mathlib.Core.Path.{_≡_, refl}
-use mathlib.Core.Bool.{Bool, true, false}
+use mathlib.Core.Bool.{false}
 use mathlib.Core.List.{List}
-use lib.Ieee.{Float, neg}
-use Rattle.sweep.specs.Scan.{crossIf, crossesBy}
-use Rattle.sweep.specs.declared.Crossing.the-variants.{Missing}
-use Rattle.sweep.specs.declared.Sought.the-variants.{Zero, Level}
-use Rattle.sweep.proofs.Scans.{Neighbours, missing-crosses-none, none-crosses-missing}
-use Rattle.bode.specs.Bode.{f180, gainPair, phasePair, gainCrossover, phaseCrossover}
+use Rattle.laws.specs.Outcome.{none}
+use Rattle.sweep.specs.Answer.{crossingOutcome}
+use Rattle.sweep.specs.Scan.{Neighbours}
+use Rattle.sweep.proofs.Scans.{none-crosses, crosses-none}
+use Rattle.bode.specs.Bode.{gainBetween, phaseBetween, gainCrosses, phaseCrosses, gainPair, phasePair, gainCrossover, phaseCrossover}
 use Rattle.bode.specs.declared.Reading.{Reading}
 
--- no crossing where the test fails, and nowhere else
-none-false : (test : Bool) (w : Float) → crossIf test w ≡ Missing → test ≡ false
-none-false true w h = cc
-none-false false w h = refl
-
-false-none : (test : Bool) (w : Float) → test ≡ false → crossIf test w ≡ Missing
-false-none test w h = rw h
-
 module _ (l : List Reading) where
-  pub gain-missing-none : gainCrossover l ≡ Missing → (a b : Reading) → Neighbours l a b → crossesBy Zero (a .db) (b .db) ≡ false
+  pub no-gain-in : crossingOutcome (gainCrossover l) ≡ none → (x y : Reading) → Neighbours l x y → gainCrosses x y ≡ false
   unfolding gainCrossover gainPair
-  gain-missing-none h a b n = none-false _ _ (missing-crosses-none gainPair l h a b n)
+  no-gain-in = none-crosses gainCrosses gainBetween gainPair (λ x y. refl) l
 
-  pub gain-none-missing : ((a b : Reading) → Neighbours l a b → crossesBy Zero (a .db) (b .db) ≡ false) → gainCrossover l ≡ Missing
+  pub none-of-gain : ((x y : Reading) → Neighbours l x y → gainCrosses x y ≡ false) → crossingOutcome (gainCrossover l) ≡ none
   unfolding gainCrossover gainPair
-  gain-none-missing h = none-crosses-missing gainPair l (λ a b n. false-none _ _ (h a b n))
+  none-of-gain = crosses-none gainCrosses gainBetween gainPair (λ x y. refl) l
 
-  pub phase-missing-none : phaseCrossover l ≡ Missing → (a b : Reading) → Neighbours l a b → crossesBy (Level (neg f180)) (a .phase) (b .phase) ≡ false
+  pub no-phase-in : crossingOutcome (phaseCrossover l) ≡ none → (x y : Reading) → Neighbours l x y → phaseCrosses x y ≡ false
   unfolding phaseCrossover phasePair
-  phase-missing-none h a b n = none-false _ _ (missing-crosses-none phasePair l h a b n)
+  no-phase-in = none-crosses phaseCrosses phaseBetween phasePair (λ x y. refl) l
 
-  pub phase-none-missing : ((a b : Reading) → Neighbours l a b → crossesBy (Level (neg f180)) (a .phase) (b .phase) ≡ false) → phaseCrossover l ≡ Missing
+  pub none-of-phase : ((x y : Reading) → Neighbours l x y → phaseCrosses x y ≡ false) → crossingOutcome (phaseCrossover l) ≡ none
   unfolding phaseCrossover phasePair
-  phase-none-missing h = none-crosses-missing phasePair l (λ a b n. false-none _ _ (h a b n))
+  none-of-phase = crosses-none phaseCrosses phaseBetween phasePair (λ x y. refl) l

@@ -4,13 +4,12 @@
 -- refused, or a join with the summary that a list of calls of its own made. `bookOf c` is the book's list of readings, kept from the calls alone.
 -- `Reaches c s` says that s is a summary that the calls c may leave. It takes each call of the program for what its contract says, and for no more: the
 -- generated `Learnt` of `empty`, `feed` and `join` is what a caller learns of a call, whatever it returned.
--- The claim is `demand-3`: whatever summary the calls leave, and whatever the two answers then return, `Answers c s` holds. `run-reached` says that every
+-- The claim is `demand-3`: whatever summary the calls leave, and whatever the two answers then return, `Claim c s` holds. `run-reached` says that every
 -- list of calls leaves a summary. Assumes nothing.
 use Prim.Native.Nat.{ℕ}
 use mathlib.Core.Path.{_≡_, refl, sym, _∙_, ap}
 use mathlib.Core.Bool.{Bool, false}
 use mathlib.Core.List.{List, []}
-use lib.Ieee.{neg}
 use contract.Lifetimes.{Lfts}
 use denote.Ref.{now}
 use denote.Triple.Clauses.{AtExit}
@@ -19,20 +18,19 @@ use Rattle.laws.specs.Outcome.{none}
 use Rattle.sweep.specs.Answer.{crossingOutcome}
 use Rattle.sweep.specs.Refusal.{refusalOf}
 use Rattle.sweep.specs.Runs.{Calls, start, feed, join, mark, Reached, made, fed, joined, leftAfter}
-use Rattle.sweep.specs.Scan.{crossesBy}
+use Rattle.sweep.specs.Scan.{Neighbours}
 use Rattle.sweep.specs.declared.Check.{Check}
 use Rattle.sweep.specs.declared.Check.the-variants as check
 use Rattle.sweep.specs.declared.Crossing.{Crossing}
-use Rattle.sweep.specs.declared.Sought.the-variants.{Zero, Level}
 use Rattle.sweep.proofs.Conditions.{lists-checked}
-use Rattle.sweep.proofs.Scans.{Neighbours, none-crosses, crosses-none}
 use Rattle.sweep.proofs.Runs.{whole, lent, feed-refused, feed-taken}
-use Rattle.bode.specs.Bode.{f180, gainBetween, phaseBetween, gainPair, phasePair, gainCrossover, phaseCrossover}
+use Rattle.bode.specs.Bode.{gainCrosses, phaseCrosses, gainCrossover, phaseCrossover}
 use Rattle.bode.specs.Summary.{summaryOf, fedBy, joinOf, numberOfFed, leftBy, gainAnswer, phaseAnswer, Part, partRefusal, partReadings, bookOf}
 use Rattle.bode.specs.declared.Reading.{Reading}
 use Rattle.bode.specs.declared.summary.BodeSummary.{BodeSummary}
 use Rattle.bode.specs.declared.summary.BodeFed.{BodeFed}
 use Rattle.bode.specs.declared.summary.BodeFed.the-variants.{Taken, Refused}
+use Rattle.bode.proofs.Laws.{no-gain-in, none-of-gain, no-phase-in, none-of-phase}
 use Rattle.bode.proofs.Joins.{fed-append, join-append, gain-answer, phase-answer}
 use Rattle.bode.proofs.summary.BodeSummary.empty.Reads as empty-reads
 use Rattle.bode.proofs.summary.BodeSummary.empty.Kinds as empty-kinds
@@ -86,16 +84,9 @@ Reaches = Reached Made FedBy JoinedBy
 
 -- ---- the claim
 
--- whether two neighbours cross 0 dB, and -180 degrees
-abbrev pub gainCrosses : Reading → Reading → Bool
-gainCrosses x y = crossesBy Zero (x .db) (y .db)
-
-abbrev pub phaseCrosses : Reading → Reading → Bool
-phaseCrosses x y = crossesBy (Level (neg f180)) (x .phase) (y .phase)
-
 -- Of a summary s that the calls c left: each answer is what its scan is defined to give on the book's list, of any length; and it is "none" exactly when no two
 -- neighbours of that list cross, whichever parts brought them.
-pub record Answers (c : Calls Part) (s : BodeSummary) : Type 0 where
+pub record Claim (c : Calls Part) (s : BodeSummary) : Type 0 where
   pub gain : (r : Crossing) → GainOf s r → crossingOutcome r ≡ crossingOutcome (gainCrossover (bookOf c))
   pub phase : (r : Crossing) → PhaseOf s r → crossingOutcome r ≡ crossingOutcome (phaseCrossover (bookOf c))
   pub no-gain : (r : Crossing) → GainOf s r → crossingOutcome r ≡ none → (x y : Reading) → Neighbours (bookOf c) x y → gainCrosses x y ≡ false
@@ -120,24 +111,7 @@ pub summary-of-book : {c : Calls Part} {s : BodeSummary} → Reaches c s → s �
 unfolding bookOf
 summary-of-book r = whole summaryOf fedBy joinOf fed-append join-append partRefusal partReadings made-says fed-says joined-says r
 
--- a scan says "none" exactly when no two neighbours cross
-no-gain-in : (l : List Reading) → crossingOutcome (gainCrossover l) ≡ none → (x y : Reading) → Neighbours l x y → gainCrosses x y ≡ false
-unfolding gainCrossover gainPair
-no-gain-in l = none-crosses gainCrosses gainBetween gainPair (λ x y. refl) l
-
-none-of-gain : (l : List Reading) → ((x y : Reading) → Neighbours l x y → gainCrosses x y ≡ false) → crossingOutcome (gainCrossover l) ≡ none
-unfolding gainCrossover gainPair
-none-of-gain l = crosses-none gainCrosses gainBetween gainPair (λ x y. refl) l
-
-no-phase-in : (l : List Reading) → crossingOutcome (phaseCrossover l) ≡ none → (x y : Reading) → Neighbours l x y → phaseCrosses x y ≡ false
-unfolding phaseCrossover phasePair
-no-phase-in l = none-crosses phaseCrosses phaseBetween phasePair (λ x y. refl) l
-
-none-of-phase : (l : List Reading) → ((x y : Reading) → Neighbours l x y → phaseCrosses x y ≡ false) → crossingOutcome (phaseCrossover l) ≡ none
-unfolding phaseCrossover phasePair
-none-of-phase l = crosses-none phaseCrosses phaseBetween phasePair (λ x y. refl) l
-
-pub demand-3 : (c : Calls Part) (s : BodeSummary) → Reaches c s → Answers c s
+pub demand-3 : (c : Calls Part) (s : BodeSummary) → Reaches c s → Claim c s
 demand-3 c s h =
     record {
       gain = gain-is;

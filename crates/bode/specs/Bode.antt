@@ -1,5 +1,5 @@
 -- The scans over a Bode sweep. Definitions only.
-use mathlib.Core.Bool.{cond}
+use mathlib.Core.Bool.{Bool, cond}
 use mathlib.Core.List.{List}
 use lib.Ieee.{Float, binary64, add, sub, mul, div, neg, lt, ofBits}
 use Rattle.scalar.specs.Scalar.{f0, eps, absOf}
@@ -29,11 +29,18 @@ gainBetween a b = between (a .omega) (b .omega) (neg (a .db)) (sub binary64 (b .
 unfoldable pub phaseBetween : Reading → Reading → Float
 phaseBetween a b = between (a .omega) (b .omega) (sub binary64 (neg f180) (a .phase)) (sub binary64 (b .phase) (a .phase))
 
+-- whether two readings cross, and where
+abbrev pub gainCrosses : Reading → Reading → Bool
+gainCrosses a b = crossesBy Zero (a .db) (b .db)
+
+abbrev pub phaseCrosses : Reading → Reading → Bool
+phaseCrosses a b = crossesBy (Level (neg f180)) (a .phase) (b .phase)
+
 unfoldable pub gainPair : Reading → Reading → Crossing
-gainPair a b = crossIf (crossesBy Zero (a .db) (b .db)) (gainBetween a b)
+gainPair a b = crossIf (gainCrosses a b) (gainBetween a b)
 
 unfoldable pub phasePair : Reading → Reading → Crossing
-phasePair a b = crossIf (crossesBy (Level (neg f180)) (a .phase) (b .phase)) (phaseBetween a b)
+phasePair a b = crossIf (phaseCrosses a b) (phaseBetween a b)
 
 unfoldable pub gainCrossover : List Reading → Crossing
 gainCrossover l = firstPair gainPair l

@@ -187,13 +187,6 @@ le-trans (fin s m e) (fin t n d) (fin u o g) h k =
     cross→le x z tt tt
     (chain (hi x) (lo x) (den x) (hi y) (lo y) (den y) (hi z) (lo z) (den z) (down-pos d) (le→cross x y tt tt h) (le→cross y z tt tt k))
 
-pub le-refl : (x : Float) → T (number x) → T (le x x)
-unfolding le
-le-refl nan h = h
-le-refl (inf true) h = tt
-le-refl (inf false) h = tt
-le-refl (fin s m e) h = let x = fin s m e in cross→le x x tt tt (omega arith)
-
 pub le-of-lt : (x y : Float) → lt x y ≡ true → T (le x y)
 unfolding le
 le-of-lt x y h = or-l (lt x y) (eq x y) (subst T (sym h) tt)

@@ -4,7 +4,7 @@
 -- refused, or a join with the summary that a list of calls of its own made. `bookOf c` is the book's list of points, kept from the calls alone.
 -- `Reaches c s` says that s is a summary that the calls c may leave. It takes each call of the program for what its contract says, and for no more: the
 -- generated `Learnt` of `empty`, `feed` and `join` is what a caller learns of a call, whatever it returned.
--- The claim is `demand-3`: whatever summary the calls leave, and whatever the answer then returns, `Answers c s` holds. `run-reached` says that every
+-- The claim is `demand-3`: whatever summary the calls leave, and whatever the answer then returns, `Claim c s` holds. `run-reached` says that every
 -- list of calls leaves a summary. Assumes nothing.
 use Prim.Native.Nat.{ℕ}
 use mathlib.Core.Path.{_≡_, refl, sym, _∙_, ap}
@@ -73,7 +73,7 @@ Reaches = Reached Made FedBy JoinedBy
 -- ---- the claim
 
 -- Of a summary s that the calls c left: the closest approach is what `distance_to_critical` is defined to give on the book's list, of any length.
-pub record Answers (c : Calls Part) (s : CurveSummary) : Type 0 where
+pub record Claim (c : Calls Part) (s : CurveSummary) : Type 0 where
   pub approach : (r : Float) → ApproachOf s r → r ≡ distanceOf (bookOf c)
 
 -- ---- the proof: whatever the calls leave is the summary of the book
@@ -93,7 +93,7 @@ pub summary-of-book : {c : Calls Part} {s : CurveSummary} → Reaches c s → s 
 unfolding bookOf
 summary-of-book r = whole summaryOf fedBy joinOf fed-append join-append partRefusal partPoints made-says fed-says joined-says r
 
-pub demand-3 : (c : Calls Part) (s : CurveSummary) → Reaches c s → Answers c s
+pub demand-3 : (c : Calls Part) (s : CurveSummary) → Reaches c s → Claim c s
 demand-3 c s h = record { approach = λ r g. g .learnt ∙ ap approachAnswer (summary-of-book h) ∙ approach-answer (bookOf c) (mark c) }
 
 -- ---- the claim is of something: every list of calls leaves a summary

@@ -1,4 +1,5 @@
 pub mod Levels
+pub mod Laws
 pub mod Cuts
 pub mod Joins
 pub mod Runs

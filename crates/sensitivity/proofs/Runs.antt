@@ -4,7 +4,7 @@
 -- refused, or a join with the summary that a list of calls of its own made. `bookOf c` is the book's list of readings, kept from the calls alone.
 -- `Reaches c s` says that s is a summary that the calls c may leave. It takes each call of the program for what its contract says, and for no more: the
 -- generated `Learnt` of `empty`, `feed` and `join` is what a caller learns of a call, whatever it returned.
--- The claim is `demand-3`: whatever summary the calls leave, and whatever the two answers then return, `Answers c s` holds. `run-reached` says that every
+-- The claim is `demand-3`: whatever summary the calls leave, and whatever the two answers then return, `Claim c s` holds. `run-reached` says that every
 -- list of calls leaves a summary. Assumes nothing.
 use Prim.Native.Nat.{ℕ}
 use mathlib.Core.Path.{_≡_, refl, sym, _∙_, ap}
@@ -20,21 +20,21 @@ use Rattle.laws.proofs.Outcome.{apart}
 use Rattle.sweep.specs.Answer.{crossingOutcome, keptOutcome, notKept}
 use Rattle.sweep.specs.Refusal.{refusalOf}
 use Rattle.sweep.specs.Runs.{Calls, start, feed, join, mark, Reached, made, fed, joined, leftAfter}
-use Rattle.sweep.specs.Scan.{crossesBy}
+use Rattle.sweep.specs.Scan.{Neighbours}
 use Rattle.sweep.specs.declared.Check.{Check}
 use Rattle.sweep.specs.declared.Check.the-variants as check
 use Rattle.sweep.specs.declared.Crossing.{Crossing}
 use Rattle.sweep.specs.declared.Kept.{Kept}
-use Rattle.sweep.specs.declared.Sought.the-variants.{Zero, Drop}
 use Rattle.sweep.proofs.Conditions.{lists-checked}
-use Rattle.sweep.proofs.Scans.{Neighbours, crossing-kept, none-crosses, crosses-none}
+use Rattle.sweep.proofs.Scans.{crossing-kept}
 use Rattle.sweep.proofs.Runs.{whole, lent, feed-refused, feed-taken}
-use Rattle.sensitivity.specs.Scans.{difference, equalBetween, equalPair, sensitivityCrossover, levelOf, dropBetween, dropPair, bandwidthOf}
+use Rattle.sensitivity.specs.Scans.{equalCrosses, sensitivityCrossover, levelOf, drops, bandwidthOf}
 use Rattle.sensitivity.specs.Summary.{summaryOf, fedBy, joinOf, numberOfFed, leftBy, crossoverAnswer, bandwidthAnswer, bandwidthOutcome, Part, partRefusal, partReadings, bookOf}
 use Rattle.sensitivity.specs.declared.Reading.{Reading}
 use Rattle.sensitivity.specs.declared.summary.SensitivitySummary.{SensitivitySummary}
 use Rattle.sensitivity.specs.declared.summary.SensitivityFed.{SensitivityFed}
 use Rattle.sensitivity.specs.declared.summary.SensitivityFed.the-variants.{Taken, Refused}
+use Rattle.sensitivity.proofs.Laws.{no-crossover-in, none-of-crossover, no-bandwidth-in, none-of-bandwidth}
 use Rattle.sensitivity.proofs.Joins.{fed-append, join-append, crossover-answer, bandwidth-answer}
 use Rattle.sensitivity.proofs.summary.SensitivitySummary.empty.Reads as empty-reads
 use Rattle.sensitivity.proofs.summary.SensitivitySummary.empty.Kinds as empty-kinds
@@ -88,24 +88,17 @@ Reaches = Reached Made FedBy JoinedBy
 
 -- ---- the claim
 
--- whether S - T crosses 0 between two neighbours, and whether T drops below the level of a list
-abbrev pub equalCrosses : Reading → Reading → Bool
-equalCrosses x y = crossesBy Zero (difference x) (difference y)
-
-abbrev pub drops : List Reading → Reading → Reading → Bool
-drops l x y = crossesBy (Drop (levelOf l)) (x .t) (y .t)
-
 -- Of a summary s that the calls c left: the crossover is what its scan is defined to give on the book's list, of any length; the bandwidth is "not kept" exactly
 -- under the mark, and else what its scan is defined to give. Each is "none" exactly when no two neighbours of that list cross, whichever parts brought them.
-pub record Answers (c : Calls Part) (s : SensitivitySummary) : Type 0 where
+pub record Claim (c : Calls Part) (s : SensitivitySummary) : Type 0 where
   pub crossover : (r : Crossing) → CrossoverOf s r → crossingOutcome r ≡ crossingOutcome (sensitivityCrossover (bookOf c))
   pub no-crossover : (r : Crossing) → CrossoverOf s r → crossingOutcome r ≡ none → (x y : Reading) → Neighbours (bookOf c) x y → equalCrosses x y ≡ false
   pub crossover-none : (r : Crossing) → CrossoverOf s r → ((x y : Reading) → Neighbours (bookOf c) x y → equalCrosses x y ≡ false) → crossingOutcome r ≡ none
   pub bandwidth : (r : Kept) → BandwidthOf s r → mark c ≡ false → keptOutcome r ≡ crossingOutcome (bandwidthOf (bookOf c))
   pub bandwidth-marked : (r : Kept) → BandwidthOf s r → mark c ≡ true → keptOutcome r ≡ notKept
   pub only-marked : (r : Kept) → BandwidthOf s r → keptOutcome r ≡ notKept → mark c ≡ true
-  pub no-bandwidth : (r : Kept) → BandwidthOf s r → keptOutcome r ≡ none → (x y : Reading) → Neighbours (bookOf c) x y → drops (bookOf c) x y ≡ false
-  pub bandwidth-none : (r : Kept) → BandwidthOf s r → mark c ≡ false → ((x y : Reading) → Neighbours (bookOf c) x y → drops (bookOf c) x y ≡ false) → keptOutcome r ≡ none
+  pub no-bandwidth : (r : Kept) → BandwidthOf s r → keptOutcome r ≡ none → (x y : Reading) → Neighbours (bookOf c) x y → drops (levelOf (bookOf c)) x y ≡ false
+  pub bandwidth-none : (r : Kept) → BandwidthOf s r → mark c ≡ false → ((x y : Reading) → Neighbours (bookOf c) x y → drops (levelOf (bookOf c)) x y ≡ false) → keptOutcome r ≡ none
 
 -- ---- the proof: whatever the calls leave is the summary of the book
 
@@ -123,23 +116,6 @@ joined-says s t u h = h .learnt
 pub summary-of-book : {c : Calls Part} {s : SensitivitySummary} → Reaches c s → s ≡ summaryOf (bookOf c) (mark c)
 unfolding bookOf
 summary-of-book r = whole summaryOf fedBy joinOf fed-append join-append partRefusal partReadings made-says fed-says joined-says r
-
--- a scan says "none" exactly when no two neighbours cross
-no-crossover-in : (l : List Reading) → crossingOutcome (sensitivityCrossover l) ≡ none → (x y : Reading) → Neighbours l x y → equalCrosses x y ≡ false
-unfolding sensitivityCrossover equalPair
-no-crossover-in l = none-crosses equalCrosses equalBetween equalPair (λ x y. refl) l
-
-none-of-crossover : (l : List Reading) → ((x y : Reading) → Neighbours l x y → equalCrosses x y ≡ false) → crossingOutcome (sensitivityCrossover l) ≡ none
-unfolding sensitivityCrossover equalPair
-none-of-crossover l = crosses-none equalCrosses equalBetween equalPair (λ x y. refl) l
-
-no-bandwidth-in : (l : List Reading) → crossingOutcome (bandwidthOf l) ≡ none → (x y : Reading) → Neighbours l x y → drops l x y ≡ false
-unfolding bandwidthOf dropPair
-no-bandwidth-in l = none-crosses (drops l) (dropBetween (levelOf l)) (dropPair (levelOf l)) (λ x y. refl) l
-
-none-of-bandwidth : (l : List Reading) → ((x y : Reading) → Neighbours l x y → drops l x y ≡ false) → crossingOutcome (bandwidthOf l) ≡ none
-unfolding bandwidthOf dropPair
-none-of-bandwidth l = crosses-none (drops l) (dropBetween (levelOf l)) (dropPair (levelOf l)) (λ x y. refl) l
 
 -- the bandwidth of a book under a mark: 101 exactly under it, and 100 only without it
 under-mark : (m : Bool) (l : List Reading) → m ≡ true → bandwidthOutcome m l ≡ notKept
@@ -160,7 +136,7 @@ unfolding bandwidthOutcome
 none-unmarked true l h = absurd (apart (sym h) (omega arith))
 none-unmarked false l h = h
 
-pub demand-3 : (c : Calls Part) (s : SensitivitySummary) → Reaches c s → Answers c s
+pub demand-3 : (c : Calls Part) (s : SensitivitySummary) → Reaches c s → Claim c s
 demand-3 c s h =
     record {
       crossover = crossover-is;

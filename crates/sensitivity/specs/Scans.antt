@@ -22,8 +22,12 @@ difference r = sub binary64 (r .s) (r .t)
 unfoldable pub equalBetween : Reading → Reading → Float
 equalBetween a b = between (a .omega) (b .omega) (neg (difference a)) (sub binary64 (difference b) (difference a))
 
+-- whether two readings cross, and where
+abbrev pub equalCrosses : Reading → Reading → Bool
+equalCrosses a b = crossesBy Zero (difference a) (difference b)
+
 unfoldable pub equalPair : Reading → Reading → Crossing
-equalPair a b = crossIf (crossesBy Zero (difference a) (difference b)) (equalBetween a b)
+equalPair a b = crossIf (equalCrosses a b) (equalBetween a b)
 
 unfoldable pub sensitivityCrossover : List Reading → Crossing
 sensitivityCrossover l = firstPair equalPair l
@@ -42,8 +46,12 @@ levelOf (r ∷ l) = sub binary64 (r .t) f3
 unfoldable pub dropBetween : Float → Reading → Reading → Float
 dropBetween level a b = between (a .omega) (b .omega) (sub binary64 level (a .t)) (sub binary64 (b .t) (a .t))
 
+-- whether T drops below the level between two readings, and where
+abbrev pub drops : Float → Reading → Reading → Bool
+drops level a b = crossesBy (Drop level) (a .t) (b .t)
+
 unfoldable pub dropPair : Float → Reading → Reading → Crossing
-dropPair level a b = crossIf (crossesBy (Drop level) (a .t) (b .t)) (dropBetween level a b)
+dropPair level a b = crossIf (drops level a b) (dropBetween level a b)
 
 unfoldable pub bandwidthOf : List Reading → Crossing
 bandwidthOf l = firstPair (dropPair (levelOf l)) l

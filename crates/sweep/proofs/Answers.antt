@@ -9,13 +9,17 @@ use Rattle.laws.specs.Loops.{filled}
 use Rattle.laws.specs.Outcome.{Outcome, answered}
 use Rattle.laws.proofs.Outcome.{found-values, apart}
 use Rattle.sweep.specs.Refusal.{numberOf, refusalOf}
-use Rattle.sweep.specs.Answer.{outcomeOf, crossingOutcome, scanned, outcomeOfGrid, gridded}
+use Rattle.sweep.specs.Answer.{outcomeOf, crossingOutcome, keptOutcome, scanned, outcomeOfGrid, gridded}
 use Rattle.sweep.specs.declared.FreqError.{FreqError}
 use Rattle.sweep.specs.declared.Check.{Check}
 use Rattle.sweep.specs.declared.Check.the-variants.{Passed, Refused}
 use Rattle.sweep.specs.declared.Crossing.{Crossing}
+use Rattle.sweep.specs.declared.Crossing.the-variants as crossing
 use Rattle.sweep.specs.declared.Answer.{Answer}
 use Rattle.sweep.specs.declared.Answer.the-variants as answer
+use Rattle.sweep.specs.declared.Kept.{Kept}
+use Rattle.sweep.specs.declared.Kept.the-variants as kept
+use Rattle.sweep.specs.declared.Grid.{Grid}
 use Rattle.sweep.specs.declared.Grid.the-variants as grid
 use Rattle.sweep.proofs.Numbers.{number-known, number-above, number-below}
 
@@ -30,6 +34,32 @@ outcome-known answer.Absent (answer.Refused f) h = absurd (apart (sym h) (number
 outcome-known (answer.Refused e) (answer.Found y) h = absurd (apart (sym h) (number-above e))
 outcome-known (answer.Refused e) answer.Absent h = absurd (apart h (number-below e))
 outcome-known (answer.Refused e) (answer.Refused f) h = ap answer.Refused (number-known e f (ap (λ (o : Outcome). o .number) h))
+
+pub crossing-known : (p q : Crossing) → crossingOutcome p ≡ crossingOutcome q → p ≡ q
+unfolding crossingOutcome
+crossing-known (crossing.At x) (crossing.At y) h = let l = found-values h in let e : x ≡ y = cc in rw e
+crossing-known (crossing.At x) crossing.Missing h = absurd (apart h (omega arith))
+crossing-known crossing.Missing (crossing.At y) h = absurd (apart (sym h) (omega arith))
+crossing-known crossing.Missing crossing.Missing h = refl
+
+pub kept-known : (p q : Kept) → keptOutcome p ≡ keptOutcome q → p ≡ q
+unfolding keptOutcome
+kept-known (kept.Found x) (kept.Found y) h = let l = found-values h in let e : x ≡ y = cc in rw e
+kept-known (kept.Found x) kept.Absent h = absurd (apart h (omega arith))
+kept-known (kept.Found x) kept.NotKept h = absurd (apart h (omega arith))
+kept-known kept.Absent (kept.Found y) h = absurd (apart (sym h) (omega arith))
+kept-known kept.Absent kept.Absent h = refl
+kept-known kept.Absent kept.NotKept h = absurd (apart h (omega arith))
+kept-known kept.NotKept (kept.Found y) h = absurd (apart (sym h) (omega arith))
+kept-known kept.NotKept kept.Absent h = absurd (apart (sym h) (omega arith))
+kept-known kept.NotKept kept.NotKept h = refl
+
+pub grid-known : (p q : Grid) → outcomeOfGrid p ≡ outcomeOfGrid q → p ≡ q
+unfolding outcomeOfGrid
+grid-known grid.Filled grid.Filled h = refl
+grid-known grid.Filled (grid.Refused f) h = absurd (apart h (number-above f))
+grid-known (grid.Refused e) grid.Filled h = absurd (apart (sym h) (number-above e))
+grid-known (grid.Refused e) (grid.Refused f) h = ap grid.Refused (number-known e f (ap (λ (o : Outcome). o .number) h))
 
 pub not-zero : (e : FreqError) → numberOf e ≡ 0 → ⊥
 not-zero e h = let p = number-above e in omega arith

@@ -13,7 +13,7 @@ use lib.Ieee.{Float, nan}
 use Rattle.laws.specs.Outcome.{none}
 use Rattle.laws.proofs.Outcome.{apart}
 use Rattle.sweep.specs.Answer.{crossingOutcome, notKept, keptOutcome, keptOf, orKept}
-use Rattle.sweep.specs.Scan.{orElse, firstFrom, firstPair, lastOf, crossIf, zip3, at3, firstWhere}
+use Rattle.sweep.specs.Scan.{orElse, firstFrom, firstPair, lastOf, Neighbours, crossIf, zip3, at3, firstWhere}
 use Rattle.sweep.proofs.Search.{both-more}
 use Rattle.sweep.specs.declared.Crossing.{Crossing}
 use Rattle.sweep.specs.declared.Crossing.the-variants.{At, Missing}
@@ -69,10 +69,6 @@ left-missing Missing b h = refl
 right-missing : (a b : Crossing) → orElse a b ≡ Missing → b ≡ Missing
 right-missing (At w) b h = cc
 right-missing Missing b h = h
-
--- x and y stand next to each other in l
-unfoldable pub Neighbours : {R : Type 0} → List R → R → R → Type 0
-Neighbours l x y = (before : List _) × (after : List _) × (l ≡ before ++ (x ∷ y ∷ after))
 
 module _ {R : Type 0} (p : R → R → Crossing) where
   pub missing-crosses-none : (l : List R) → firstPair p l ≡ Missing → (x y : R) → Neighbours l x y → p x y ≡ Missing

@@ -1,7 +1,8 @@
 -- Scans over a list of readings, of any kind and any length: the first two neighbours that cross. Definitions only.
 use Prim.Native.Nat.{ℕ, zero, suc, _+_, _-_}
+use mathlib.Core.Path.{_≡_}
 use mathlib.Core.Bool.{Bool, true, false, not, _&&_, _||_, Bool·beq, cond}
-use mathlib.Core.List.{List, [], _∷_}
+use mathlib.Core.List.{List, [], _∷_, _++_}
 use lib.ListN.{length, getD}
 use lib.Ieee.{Float, nan, binary64, add, sub, mul, div, lt, le}
 use Rattle.laws.specs.Outcome.{Outcome}
@@ -36,6 +37,10 @@ lastOf x [] = x
 lastOf x (y ∷ ys) = lastOf y ys
 
 -- ---- two neighbours
+
+-- x and y stand next to each other in l
+unfoldable pub Neighbours : {R : Type 0} → List R → R → R → Type 0
+Neighbours l x y = (before : List _) × (after : List _) × (l ≡ before ++ (x ∷ y ∷ after))
 
 -- a crossing, or what is found there, if the test passes
 abbrev pub crossIf : Bool → Float → Crossing

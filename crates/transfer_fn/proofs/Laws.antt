@@ -49,6 +49,17 @@ outcome-known (response.Value x) (response.Refused f) h = absurd (apart h (numbe
 outcome-known (response.Refused e) (response.Value y) h = absurd (apart (sym h) (number-above e))
 outcome-known (response.Refused e) (response.Refused f) h = ap response.Refused (number-known e f (ap (λ (o : Outcome). o .number) h))
 
+pub both-known : (p q : Both) → outcomeOfBoth p ≡ outcomeOfBoth q → p ≡ q
+unfolding outcomeOfBoth
+both-known (both.Values x y) (both.Values z w) h =
+    let l = found-values h in
+    let ex : x ≡ z = values-known x z (cc) in
+    let ey : y ≡ w = values-known y w (cc) in
+    rw (ex, ey)
+both-known (both.Values x y) (both.Refused f) h = absurd (apart h (number-above f))
+both-known (both.Refused e) (both.Values z w) h = absurd (apart (sym h) (number-above e))
+both-known (both.Refused e) (both.Refused f) h = ap both.Refused (number-known e f (ap (λ (o : Outcome). o .number) h))
+
 -- ---- a function f of the values of both, which r answered
 module _ (f : Complex → Complex → Complex) (n : ℕ) (P C : Complex) {r : Both} (given : outcomeOfBoth r ≡ answered n (valuesOf P ++ valuesOf C)) where
   pub of-values : {p c v : Complex} → r ≡ both.Values p c → v ≡ f p c → outcomeOf (response.Value v) ≡ answered n (valuesOf (f P C))
