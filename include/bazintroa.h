@@ -10,11 +10,11 @@
  *     100   none: no crossing, no margin, no quotient
  *     101   not kept: the bandwidth of a summary after a join
  *     or the first refusal that applies:
- *     1     fewer than two points          14    the lent list is too short
- *     2     a frequency range not above 0  15    more than 4,096 readings or points
- *     3     a parameter out of range       16    an order out of range
- *     11    lists of different lengths     17    an index out of range
- *     12    degree 3 is left out           19    not a whole number of readings in bytes
+ *     1     fewer than two points                     14    the lent list is too short
+ *     2     a top frequency 0 or below; a NaN passes  15    more than 4,096 readings or points
+ *     3     a parameter out of range                  16    an order out of range
+ *     11    lists of different lengths                17    an index out of range
+ *     12    degree 3 is left out                      19    not a whole number of readings in bytes
  *     13    too few cosines and sines
  * On any number but 0 nothing is written.
  *
@@ -66,13 +66,17 @@ void bazintroa_complex_divide_or_zero(const double z[2], const double w[2], doub
  *     (b[0] + b[1] z^-1 + ..) / (1 + a[0] z^-1 + a[1] z^-2 + ..)
  * The arrays have eight places; those past the order are ignored. Place k of the two lists
  * holds cosine and sine of -(omega * k); at least order + 1 are needed, more are ignored.
- * Refused: 16 if an order is above 8, 11 if the lists differ in length, 13 if they are short. */
+ * Refused: 16 if an order is above 8, 11 if the lists differ in length, 13 if they are short.
+ * The value is (0, 0), and 0 is returned, where the denominator's squared magnitude is below
+ * 2^-52, and for order 0. */
 
 uint32_t bazintroa_eval_tf_complex(const double b[8], const double a[8], size_t order,
                                    const double *cosines, size_t cosines_len,
                                    const double *sines, size_t sines_len, double out[2]);
 
-/* Loop gain L = P C, S = 1 / (1 + L), T = L / (1 + L), Q = C / (1 + L). */
+/* Loop gain L = P C, S = 1 / (1 + L), T = L / (1 + L), Q = C / (1 + L), of the values P and C
+ * above. Where the squared magnitude of 1 + L is below 2^-52, S, T and Q are (0, 0), and 0 is
+ * returned. */
 uint32_t bazintroa_loop_gain_at(const double plant_b[8], const double plant_a[8], size_t plant_order,
                                 const double controller_b[8], const double controller_a[8],
                                 size_t controller_order, const double *cosines, size_t cosines_len,
@@ -115,7 +119,8 @@ uint32_t bazintroa_sensitivity_crossover(const double *omega, size_t omega_len, 
 uint32_t bazintroa_bandwidth(const double *omega, size_t omega_len, const double *s, size_t s_len,
                              const double *t, size_t t_len, double *out);
 
-/* The least distance of a curve's points from (-1, 0), and 0 where no point counts. */
+/* The least distance of a curve's points from (-1, 0). A point whose distance is a NaN, or whose
+ * square overflows, does not count; where none counts it is 0. */
 uint32_t bazintroa_distance_to_critical(const double *re, size_t re_len, const double *im,
                                         size_t im_len, double *out);
 
@@ -132,8 +137,8 @@ uint32_t bazintroa_gain_crossover_readings(const bazintroa_reading *readings, si
 
 /* ---- grids ----
  * The first n places of the list are written, the rest keeps its contents. Refused: 1 if
- * n < 2, 3 (gains) or 2 (frequencies) if the top is not above 0, 15 if n > 4,096, 14 if the list
- * is shorter than n. */
+ * n < 2, 3 (gains) or 2 (frequencies) if the top is 0 or below (a NaN passes), 15 if n > 4,096,
+ * 14 if the list is shorter than n. */
 
 /* (k_max * i) / (n - 1) */
 uint32_t bazintroa_fill_gain_grid(double k_max, size_t n, double *list, size_t list_len);
@@ -145,8 +150,8 @@ uint32_t bazintroa_fill_frequency_grid(double omega_max, size_t n, double *list,
 
 /* Point i of n: the gain (k_max * i) / (n - 1) and the poles of the closed loop there, eight
  * places of real and imaginary part, (0, 0) past the count. Refused: 1 if n < 2, 3 if k_max is
- * not above 0 or the order is above 8, 16 if it is 0, 15 if n > 4,096, 17 if i >= n, 12 if the
- * degree left is 3. */
+ * 0 or below (a NaN passes) or the order is above 8, 16 if it is 0, 15 if n > 4,096, 17 if i >= n,
+ * 12 if the degree left is 3. */
 uint32_t bazintroa_locus_point(const double b[8], const double a[8], size_t order, double k_max,
                                size_t n, size_t i, double *gain, double poles[16], size_t *count);
 
@@ -159,7 +164,8 @@ bool bazintroa_stability_region(const double poles[16], size_t count);
  * 4,096 readings and joined with another, which puts that one's readings behind its own; it then
  * answers what the scan of the whole list would, whatever the cuts. The caller keeps it; its
  * size does not grow. Zeros are the empty summary. Content that no function here made gives
- * defined answers too: any mark but 0 says that what belongs to it counts.
+ * defined answers too: any mark but 0 says that what belongs to it counts, except that
+ * `bandwidth_kept` from 2 on says not kept.
  *
  * A feed returns a number and a summary: 0 and the summary with the part behind it, or a
  * refusal, 11 or 15, and the summary as it came. */
@@ -221,7 +227,8 @@ uint32_t bazintroa_sensitivity_summary_crossover(bazintroa_sensitivity_summary s
 /* 101 where a join is among the calls that made the summary. */
 uint32_t bazintroa_sensitivity_summary_bandwidth(bazintroa_sensitivity_summary s, double *out);
 
-/* The nearest point of a curve to (-1, 0), if there is one at a finite distance. */
+/* The nearest point of a curve to (-1, 0), if one counts: a point whose distance is a NaN, or
+ * whose square overflows, does not. */
 typedef struct {
     uint32_t found;
     double re;

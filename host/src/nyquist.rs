@@ -24,7 +24,7 @@ pub fn distance_to_critical(re: &[f64], im: &[f64]) -> Result<f64, Refusal> {
 }
 
 /// Writes `n` frequencies, evenly spaced from 0 to `omega_max`, into the first `n` places of
-/// `list`. The other places keep their contents. It divides before it multiplies, other than
+/// `list`. The other places keep their contents. It divides before it multiplies, unlike
 /// [`fill_gain_grid`](crate::fill_gain_grid), so the bits may differ.
 ///
 /// Refused as [`fill_gain_grid`](crate::fill_gain_grid), with [`Refusal::InvalidFrequencyRange`] if `omega_max` is at or

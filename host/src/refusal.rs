@@ -7,16 +7,30 @@ use std::fmt;
 #[derive(Clone, Copy, Debug, PartialEq, Eq, Hash)]
 #[repr(u32)]
 pub enum Refusal {
+    /// 1: fewer than 2 points of a grid or a locus are asked for.
     InsufficientPoints = 1,
+    /// 2: the highest frequency of a grid is 0 or below. A NaN passes.
     InvalidFrequencyRange = 2,
+    /// 3: the largest gain of a grid or a locus is 0 or below, where a NaN passes; or the order of a
+    /// locus is above 8.
     InvalidParameter = 3,
+    /// 11: lists of a call that must be of one length are not.
     LengthsDiffer = 11,
+    /// 12: the polynomial of a point of the locus is of degree 3, whose roots are left out.
     CubicLeftOut = 12,
+    /// 13: there are fewer cosines and sines than the largest order plus 1.
     TooFewPairs = 13,
+    /// 14: the list lent for a grid is shorter than its number of points; or the answer lent to the
+    /// panel has fewer than 8 bytes.
     NoRoom = 14,
+    /// 15: more than 4,096 readings, points of a curve, or points of a grid or a locus.
     TooMany = 15,
+    /// 16: the order of a locus is 0; or that of a transfer function that is evaluated, alone or in a
+    /// loop, is above 8.
     WrongOrder = 16,
+    /// 17: the index of a point of the locus is not below their number.
     WrongIndex = 17,
+    /// 19: the panel's readings are a number of bytes that is no multiple of 24.
     WrongByteCount = 19,
 }
 
@@ -73,7 +87,7 @@ impl fmt::Display for Refusal {
             Refusal::LengthsDiffer => "the lists differ in length",
             Refusal::CubicLeftOut => "the polynomial is of degree 3, whose roots are left out",
             Refusal::TooFewPairs => {
-                "there are fewer cosines and sines than the largest order and 1"
+                "there are fewer cosines and sines than the largest order plus 1"
             }
             Refusal::NoRoom => "the lent list is too short for what is to be written",
             Refusal::TooMany => "there are more than 4,096 readings or points",
@@ -102,5 +116,66 @@ pub(crate) fn answer(call: impl FnOnce(&mut f64) -> u32) -> Result<Option<f64>, 
     match call(&mut place) {
         100 => Ok(None),
         number => value(number, Some(place)),
+    }
+}
+
+#[cfg(test)]
+mod tests {
+    use super::*;
+    use std::collections::HashSet;
+
+    /// Document 01's numbers, and words of what each refusal is for.
+    const EXPECTED: [(Refusal, u32, &[&str]); 11] = [
+        (Refusal::InsufficientPoints, 1, &["fewer than 2 points"]),
+        (
+            Refusal::InvalidFrequencyRange,
+            2,
+            &["highest frequency", "0 or below"],
+        ),
+        (
+            Refusal::InvalidParameter,
+            3,
+            &["largest gain", "0 or below", "order", "above 8"],
+        ),
+        (Refusal::LengthsDiffer, 11, &["lists", "length"]),
+        (Refusal::CubicLeftOut, 12, &["degree 3"]),
+        (
+            Refusal::TooFewPairs,
+            13,
+            &["fewer cosines and sines", "order plus 1"],
+        ),
+        (Refusal::NoRoom, 14, &["list", "too short"]),
+        (
+            Refusal::TooMany,
+            15,
+            &["more than 4,096", "readings", "points"],
+        ),
+        (Refusal::WrongOrder, 16, &["order", "0", "above 8"]),
+        (Refusal::WrongIndex, 17, &["index"]),
+        (Refusal::WrongByteCount, 19, &["bytes", "multiple of 24"]),
+    ];
+
+    #[test]
+    fn every_refusal_has_its_number_and_text() {
+        assert_eq!(EXPECTED.map(|(refusal, ..)| refusal), Refusal::ALL);
+        let mut texts = HashSet::new();
+        for (refusal, number, words) in EXPECTED {
+            assert_eq!(refusal.number(), number);
+            assert_eq!(Refusal::from_number(number), Some(refusal));
+            let text = refusal.to_string();
+            for word in words {
+                assert!(text.contains(word), "{word} is not in {text}");
+            }
+            assert!(texts.insert(text), "{refusal:?} has the text of another");
+        }
+    }
+
+    #[test]
+    fn no_other_number_is_a_refusal() {
+        for number in (0..=1000).chain([u32::MAX]) {
+            let expected = EXPECTED.iter().find(|(_, n, _)| *n == number);
+            let expected = expected.map(|(refusal, ..)| *refusal);
+            assert_eq!(Refusal::from_number(number), expected);
+        }
     }
 }

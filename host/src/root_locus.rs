@@ -15,7 +15,8 @@ pub struct LocusPoint {
 
 /// Point `i` of the `n` points of the root locus, at the gain (`k_max`·i)/(n - 1), with the poles of
 /// the loop closed by that gain. The polynomial of order N has the coefficients 1 + k·b\[0\], then
-/// a\[i-1\] + k·b\[i\] for i from 1 to N - 1, then a\[N-1\]; leading ones below 2^-52 are dropped.
+/// a\[i-1\] + k·b\[i\] for i from 1 to N - 1, then a\[N-1\]; leading ones with an absolute value below
+/// 2^-52 are dropped.
 ///
 /// Refused with [`Refusal::InsufficientPoints`] if `n` is below 2, then
 /// [`Refusal::InvalidParameter`] if `k_max` is at or below 0 or the order is above 8,
@@ -55,8 +56,9 @@ pub fn locus_point(
     value(number, LocusPoint { gain, poles, count })
 }
 
-/// Whether all counted poles lie inside the unit circle: false exactly if one has a squared
-/// magnitude of 1 or more. A count above 8 is read as 8.
+/// Whether no counted pole lies on the unit circle or outside: false exactly if one has a squared
+/// magnitude of 1 or more. A NaN pole counts as inside, as in the Rust, so look for NaN first. A
+/// count above 8 is read as 8.
 ///
 /// ```
 /// use bazintroa::{stability_region, Complex};
@@ -66,6 +68,7 @@ pub fn locus_point(
 /// poles[7] = Complex::from_real(1.0);
 /// assert!(!stability_region(&poles, 8));
 /// assert!(stability_region(&poles, 7));
+/// assert!(stability_region(&[Complex::from_real(f64::NAN); 8], 8));
 /// ```
 #[inline]
 pub fn stability_region(poles: &[Complex; 8], count: usize) -> bool {

@@ -3,7 +3,7 @@
 use crate::refusal::value;
 use crate::{exported, Complex, Refusal};
 
-/// A transfer function of discrete time: the sum of b\[k\]·z^-k by 1 and the sum of
+/// A transfer function of discrete time: the sum of b\[k\]·z^-k divided by 1 plus the sum of
 /// a\[k\]·z^-(k+1), each over the k below the order. The coefficients past it do not matter.
 #[derive(Clone, Copy, Debug, PartialEq)]
 pub struct TransferFn {

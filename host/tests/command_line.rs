@@ -149,7 +149,7 @@ fn refusals_have_their_number() {
         ),
         (
             &["locus", LOOP, "--k-max", "-2"],
-            "a locus of 101 points up to -2 is refused with 3: the largest gain is 0 or below, or the order is above 8",
+            "a locus of 101 points up to -2 is refused with 3: the largest gain is 0 or below",
         ),
         (
             &["locus", LOOP, "--k-max", "1", "--points", "4097"],

@@ -170,10 +170,19 @@ fn options_of_the_grid() {
     let text = said(["loop", STEADY, "--even", "--points", "9"]);
     assert!(text.contains("\n8 readings from 0.392699 to 3.14159 rad/sample\n"));
     assert!(text.contains(
-        "The frequency 0 rad/sample is left out: L is 0 there, or a denominator vanishes.\n"
+        "The frequency 0 rad/sample is left out: L is 0, infinite or NaN there, or a denominator vanishes.\n"
     ));
     let text = said(["loop", STEADY, "--even", "--points", "9", "--json"]);
     assert_eq!(json(&text, "left_out"), "[0.0]");
+    // At 0 this is 1e308/0.5, too large for a number.
+    let path = file(
+        "infinite.txt",
+        "plant.b = 1e308\nplant.a = -0.5\ncontroller.b = 1\n",
+    );
+    let path = path.to_str().unwrap();
+    let text = said(["loop", path, "--even", "--points", "9", "--json"]);
+    assert_eq!(json(&text, "left_out"), "[0.0]");
+    assert_eq!(json(&text, "readings"), "8");
 }
 
 #[test]
@@ -203,10 +212,12 @@ fn json_has_stable_keys() {
             "stable",
             "refused",
             "poles",
-            "multiplied_by_z"
+            "multiplied_by_z",
+            "not_decided"
         ]
     );
     assert_eq!(json(&text, "stable"), "true");
+    assert_eq!(json(&text, "not_decided"), "null");
 }
 
 #[test]
@@ -218,7 +229,18 @@ fn whether_the_closed_loop_settles() {
             .lines()
             .find(|line| line.starts_with("  closed loop"))
             .unwrap();
-        (line[19..].trim().to_string(), text)
+        let words = line[19..].trim().to_string();
+        // JSON has the same reason where it is not decided, and none where it is.
+        let of_json = said(["loop".as_ref(), path.as_os_str(), "--json".as_ref()]);
+        let (stable, why) = match words.split_once(": ").unwrap() {
+            ("stable", _) => ("true", "null".to_string()),
+            ("not stable", _) => ("false", "null".to_string()),
+            ("not decided", why) => ("null", format!("\"{why}\"")),
+            _ => panic!("{words}"),
+        };
+        assert_eq!(json(&of_json, "stable"), stable);
+        assert_eq!(json(&of_json, "not_decided"), why);
+        (words, text)
     };
     let (said, _) = closed(
         "out.txt",

@@ -1,9 +1,10 @@
-//! The commands and outputs that the README shows.
+//! The commands and outputs that the README shows, and the files that the documents name.
 
 mod common;
 
 use common::*;
 use std::fs;
+use std::path::PathBuf;
 use std::process::Command;
 
 /// The fenced blocks of a language.
@@ -66,8 +67,92 @@ fn the_program_in_c() {
     );
 }
 
+/// The folders whose files the documents name.
+const FOLDERS: [&str; 6] = [
+    "docs/",
+    "crates/",
+    "tools/",
+    "examples/",
+    "host/",
+    "include/",
+];
+
+/// Whether a path stands for several: a part of it is a pattern, or in capitals, as in CRATE or FN.rt.
+fn is_pattern(path: &str) -> bool {
+    let capitals = |part: &str| {
+        let (stem, extension) = part.split_once('.').unwrap_or((part, ""));
+        let mut letters = stem.chars();
+        extension != "md" && !stem.is_empty() && letters.all(|c| c.is_ascii_uppercase() || c == '_')
+    };
+    path.contains('*') || path.split('/').any(capitals)
+}
+
+/// The paths from the repository's root that a line names.
+fn paths(line: &str) -> impl Iterator<Item = &str> {
+    let words = line.split(|c: char| c.is_whitespace() || "`()[]|,;:\"'".contains(c));
+    let words = words.map(|word| word.trim_end_matches('.'));
+    words.filter(|word| FOLDERS.iter().any(|folder| word.starts_with(folder)) && !is_pattern(word))
+}
+
+/// README.md, docs/*.md and tools/*/README.md.
+fn documents() -> Vec<PathBuf> {
+    let inside = |folder: &str| {
+        let entries = fs::read_dir(root().join(folder)).unwrap();
+        entries.map(|entry| entry.unwrap().path())
+    };
+    let mut documents = vec![root().join("README.md")];
+    documents.extend(inside("docs").filter(|path| path.extension() == Some("md".as_ref())));
+    documents.extend(inside("tools").map(|tool| tool.join("README.md")));
+    documents.retain(|path| path.exists());
+    documents.sort();
+    documents
+}
+
 #[test]
-fn files_that_it_names_are_there() {
+fn paths_of_a_line() {
+    let named = |line| paths(line).collect::<Vec<&str>>();
+    assert_eq!(
+        named("`docs/A.md`, [one](examples/a.svg); crates/a/src/lib.rt, `f` and host/."),
+        [
+            "docs/A.md",
+            "examples/a.svg",
+            "crates/a/src/lib.rt",
+            "host/"
+        ]
+    );
+    assert_eq!(
+        named("tools/a/run: include/b.h"),
+        ["tools/a/run", "include/b.h"]
+    );
+    let none: [&str; 0] = [];
+    assert_eq!(
+        named("crates/*/src, crates/CRATE/proofs, tools/a/FN.rt, ../docs/a, my_docs/a"),
+        none
+    );
+}
+
+#[test]
+fn files_that_the_documents_name_are_there() {
+    let mut named = 0;
+    let mut missing = Vec::new();
+    for document in documents() {
+        let text = fs::read_to_string(&document).unwrap();
+        let name = document.strip_prefix(root()).unwrap().display();
+        for (i, line) in text.lines().enumerate() {
+            for path in paths(line) {
+                named += 1;
+                if !root().join(path).exists() {
+                    missing.push(format!("{name}, line {}: {path}", i + 1));
+                }
+            }
+        }
+    }
+    assert!(missing.is_empty(), "not there:\n{}", missing.join("\n"));
+    assert!(named > 30, "{named} paths");
+}
+
+#[test]
+fn files_that_it_links_to_are_there() {
     let readme = fs::read_to_string(root().join("README.md")).unwrap();
     let mut named = 0;
     for link in readme.split("](").skip(1) {

@@ -17,9 +17,11 @@ pub fn program() -> Command {
     command
 }
 
-/// A place for a file of a test. Each test takes a name of its own.
+/// A place for a file of a test. Each test takes a name of its own; the files of test programs that run
+/// side by side lie in one folder, so the program's name stands in front.
 pub fn place(name: &str) -> PathBuf {
-    Path::new(env!("CARGO_TARGET_TMPDIR")).join(name)
+    let folder = Path::new(env!("CARGO_TARGET_TMPDIR"));
+    folder.join(format!("{}_{name}", env!("CARGO_CRATE_NAME")))
 }
 
 pub fn file(name: &str, contents: impl AsRef<[u8]>) -> PathBuf {

@@ -9,7 +9,8 @@ pub enum Json {
     Bool(bool),
     Count(usize),
     Number(f64),
-    Text(&'static str),
+    /// Without quotes, backslashes and line ends.
+    Text(String),
     List(Vec<Json>),
     Object(Vec<(&'static str, Json)>),
 }

@@ -153,11 +153,16 @@ fn run(arguments: &Arguments) -> Result<Output, Failure> {
 
     let mut gains = vec![0.0; n.min(LIMIT)];
     fill_gain_grid(k_max, n, &mut gains).map_err(|refusal| {
+        let why = match refusal {
+            // The order, its other cause, is no argument of a grid.
+            Refusal::InvalidParameter => "the largest gain is 0 or below".to_string(),
+            other => other.to_string(),
+        };
         format!(
-            "a locus of {} up to {} is {}",
+            "a locus of {} up to {} is refused with {}: {why}",
             counted(n, "point"),
             number(k_max, 6),
-            refused(refusal)
+            refusal.number()
         )
     })?;
     let terminal = Some(io::stderr()).filter(IsTerminal::is_terminal);
@@ -258,7 +263,7 @@ impl Report<'_> {
         });
         let first = self.first_not_inside().map(|i| self.gains[i]);
         Json::Object(vec![
-            ("command", Json::Text("locus")),
+            ("command", Json::Text("locus".into())),
             ("order", Json::Count(order)),
             ("poles_added_at_0", Json::Count(added)),
             ("first_gain_not_inside", Json::maybe(first)),

@@ -5,7 +5,7 @@ use std::fmt::Write;
 
 use bazintroa::{
     bandwidth, distance_to_critical, fill_frequency_grid, pairs, sensitivity_crossover, Complex,
-    LoopShaping, Refusal,
+    LocusPoint, LoopShaping, Refusal,
 };
 
 use crate::arguments::{Arguments, Command};
@@ -31,8 +31,8 @@ frequencies: the loop gain L = P·C, S = 1/(1 + L), T = L/(1 + L) and Q = C/(1 +
 ",
         loop_file::FORM,
         "
-The phase is wrapped, from -180 to 180 degrees. A frequency where L is 0, or where a denominator
-vanishes, is left out.
+The phase is wrapped, from -180 to 180 degrees. A frequency where L is 0, infinite or NaN, or where
+a denominator vanishes, is left out.
 
   --points N     readings of the grid, 2 to 4,096 (4,096)
   --omega-min W  lowest frequency in radians per sample (0.001)
@@ -70,7 +70,7 @@ pub struct Responses {
     pub s: Vec<f64>,
     pub t: Vec<f64>,
     pub q: Vec<f64>,
-    /// Frequencies of the grid at which L is 0 or has no value.
+    /// Frequencies of the grid at which L is 0, infinite or NaN, or a denominator vanishes.
     left_out: Vec<f64>,
 }
 
@@ -223,7 +223,7 @@ fn run(arguments: &Arguments) -> Result<Output, Failure> {
 
     if arguments.has("--json") {
         let mut fields = vec![
-            ("command", Json::Text("loop")),
+            ("command", Json::Text("loop".into())),
             ("readings", Json::Count(sweep.len())),
             ("left_out", Json::numbers(left_out)),
             ("unwrapped", Json::Bool(unwrapped)),
@@ -234,6 +234,8 @@ fn run(arguments: &Arguments) -> Result<Output, Failure> {
         fields.push(("closest_approach", Json::Number(approach)));
         let mut poles = closed.fields();
         poles.push(("multiplied_by_z", Json::Bool(multiplied)));
+        let why = closed.decided().err();
+        poles.push(("not_decided", why.map_or(Json::Null, Json::Text)));
         fields.push(("closed_loop", Json::Object(poles)));
         output.text = format!("{}\n", Json::Object(fields));
         return Ok(output);
@@ -279,14 +281,14 @@ fn run(arguments: &Arguments) -> Result<Output, Failure> {
         [one] => {
             let _ = writeln!(
                 text,
-                "The frequency {} rad/sample is left out: L is 0 there, or a denominator vanishes.",
+                "The frequency {} rad/sample is left out: L is 0, infinite or NaN there, or a denominator vanishes.",
                 number(*one, 6)
             );
         }
         [first, ..] => {
             let _ = writeln!(
                 text,
-                "{} frequencies are left out, the first {} rad/sample: L is 0 there, or a denominator vanishes.",
+                "{} frequencies are left out, the first {} rad/sample: L is 0, infinite or NaN there, or a denominator vanishes.",
                 count(left_out.len()),
                 number(*first, 6)
             );
@@ -303,17 +305,21 @@ fn run(arguments: &Arguments) -> Result<Output, Failure> {
 }
 
 impl Poles {
+    /// The poles that decide whether the loop as written settles, or why it is not decided.
+    fn decided(&self) -> Result<&LocusPoint, String> {
+        match self {
+            Poles::NoProduct(why) => Err(why.clone()),
+            Poles::Refused(refusal) => Err(format!("its poles are {}", words::refused(*refusal))),
+            Poles::Found(point) if locus::has_nan(point) => Err("a pole is not a number".into()),
+            Poles::Found(point) => Ok(point),
+        }
+    }
+
     /// Whether the loop as written settles.
     fn in_words(&self) -> String {
-        match self {
-            Poles::NoProduct(why) => format!("not decided: {why}"),
-            Poles::Refused(refusal) => {
-                format!("not decided: its poles are {}", words::refused(*refusal))
-            }
-            Poles::Found(point) if locus::has_nan(point) => {
-                "not decided: a pole is not a number".into()
-            }
-            Poles::Found(point) => {
+        match self.decided() {
+            Err(why) => format!("not decided: {why}"),
+            Ok(point) => {
                 let outermost = number(locus::outermost(point), 6);
                 if locus::inside(point) {
                     format!("stable: the outermost pole lies {outermost} from 0")

@@ -33,9 +33,9 @@ pub fn page(
             format!("closest approach to -1: {}", number(approach, 6)),
         ),
         (Mark::Line(UNIT), "unit circle".into()),
-        (Mark::Line(S), "S, from disturbance to pressure".into()),
-        (Mark::Line(T), "T, from wanted to actual pressure".into()),
-        (Mark::Line(Q), "Q, from wanted pressure to drive".into()),
+        (Mark::Line(S), "S, from disturbance to output".into()),
+        (Mark::Line(T), "T, from reference to output".into()),
+        (Mark::Line(Q), "Q, from reference to control".into()),
         (
             Mark::Line(BANDWIDTH),
             match bandwidth {

@@ -24,8 +24,8 @@ frequency in radians per sample, magnitude in dB, phase in degrees, with commas,
 blanks between. A first line may name the columns, also more than three, of which the first three
 are read. Empty lines and lines that begin with # are passed over. The file - is standard input.
 
-The first crossing in the file's order counts. Above 4,096 readings the crossovers are still exact,
-and the margins are refused.
+The first crossing in the file's order counts. Above 4,096 readings the crossovers are still those
+of the whole sweep, and the margins are refused.
 
   --unwrap    follow the phase past half a turn: where it jumps by more than 180 degrees from one
               reading to the next, whole turns are taken away or added from there on
@@ -58,7 +58,7 @@ fn run(arguments: &Arguments) -> Result<Output, Failure> {
     }
     output.text = if arguments.has("--json") {
         let mut fields = vec![
-            ("command", Json::Text("margins")),
+            ("command", Json::Text("margins".into())),
             ("readings", Json::Count(sweep.len())),
             ("not_finite", Json::Count(sweep.not_finite())),
             ("unwrapped", Json::Bool(unwrapped)),

@@ -59,9 +59,10 @@ pub fn compare(comparison: &mut Comparison, random: &mut Random) {
 
 /// Document 01's conditions, in its order.
 fn refusal(length: usize, room: usize) -> Option<u64> {
-    if !length.is_multiple_of(READING) {
+    let (readings, rest) = (length / READING, length % READING);
+    if rest != 0 {
         Some(LENGTH_OF_BYTES)
-    } else if length / READING > MAX_POINTS as usize {
+    } else if readings > MAX_POINTS as usize {
         Some(TOO_MANY)
     } else if room < ANSWER {
         Some(NO_ROOM)

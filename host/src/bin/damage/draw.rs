@@ -50,8 +50,15 @@ pub fn place() -> Box<f64> {
     Box::new(f64::from_bits(MARK))
 }
 
+/// Whether the places hold what they held before a call.
+pub fn stayed(places: &[f64]) -> bool {
+    places.iter().all(|place| place.to_bits() == MARK)
+}
+
 /// A call that does not answer 0 must leave its place.
 pub fn check(number: u32, places: &[f64]) {
-    let stayed = places.iter().all(|place| place.to_bits() == MARK);
-    assert!(number == 0 || stayed, "{number} was answered, and written");
+    assert!(
+        number == 0 || stayed(places),
+        "{number} was answered, and written"
+    );
 }

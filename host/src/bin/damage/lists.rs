@@ -1,6 +1,6 @@
 //! Scans, grids, evaluation and the points of the locus.
 
-use crate::draw::{check, length, lists, number, place, MARK};
+use crate::draw::{check, length, lists, number, place, stayed, MARK};
 use bazintroa::exported;
 use bazintroa::random::Random;
 use bazintroa::Reading;
@@ -55,7 +55,11 @@ pub fn grid(random: &mut Random) {
         0 => exported::fill_gain_grid(top, n, &mut list),
         _ => exported::fill_frequency_grid(top, n, &mut list),
     };
-    check(number, &list);
+    let written = if number == 0 { n } else { 0 };
+    assert!(
+        stayed(&list[written..]),
+        "{number} was answered, and a list is written past {written}"
+    );
 }
 
 /// Eight coefficients.
@@ -92,10 +96,15 @@ pub fn response(random: &mut Random) {
 fn point(random: &mut Random, b: &[f64; 8], a: &[f64; 8], order: usize) {
     let (k_max, n, i) = (number(random), whole(random), whole(random));
     let (mut gain, mut poles) = (place(), Box::new([f64::from_bits(MARK); 16]));
-    let mut count = Box::new(0);
+    let mut count = Box::new(MARK as usize);
     let answered =
         exported::locus_point(b, a, order, k_max, n, i, &mut gain, &mut poles, &mut count);
     check(answered, &[*gain]);
     check(answered, &*poles);
+    let counted = match answered {
+        0 => *count <= 8,
+        _ => *count == MARK as usize,
+    };
+    assert!(counted, "{answered} was answered, and the count is {count}");
     exported::stability_region(&poles, whole(random));
 }
