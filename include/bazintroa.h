@@ -165,7 +165,7 @@ bool bazintroa_stability_region(const double poles[16], size_t count);
  * answers what the scan of the whole list would, whatever the cuts. The caller keeps it; its
  * size does not grow. Zeros are the empty summary. Content that no function here made gives
  * defined answers too: any mark but 0 says that what belongs to it counts, except that
- * `bandwidth_kept` from 2 on says not kept.
+ * `bandwidth_state` from 2 on says not kept.
  *
  * A feed returns a number and a summary: 0 and the summary with the part behind it, or a
  * refusal, 11 or 15, and the summary as it came. */
@@ -203,7 +203,7 @@ typedef struct {
 typedef struct {
     uint32_t read;
     uint32_t crossover_found; /* 1 where S and T cross: first at `crossover` */
-    uint32_t bandwidth_kept;  /* 1: `bandwidth`; 0: none; 2, or any other: not kept */
+    uint32_t bandwidth_state;  /* 1: `bandwidth`; 0: none; 2, or any other: not kept */
     bazintroa_sensitivity_reading first;
     bazintroa_sensitivity_reading last;
     double crossover;

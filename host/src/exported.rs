@@ -34,14 +34,14 @@ pub struct BodePlainFed {
     pub summary: BodePlain,
 }
 
-/// A summary of a sweep of S and T. `bandwidth_kept` is 0 for none, 1 for one that was found, and
+/// A summary of a sweep of S and T. `bandwidth_state` is 0 for none, 1 for one that was found, and
 /// anything else for one that is not kept.
 #[repr(C)]
 #[derive(Clone, Copy, Debug)]
 pub struct SensitivityPlain {
     pub read: u32,
     pub crossover_found: u32,
-    pub bandwidth_kept: u32,
+    pub bandwidth_state: u32,
     pub first: SensitivityReading,
     pub last: SensitivityReading,
     pub crossover: f64,

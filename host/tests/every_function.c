@@ -370,7 +370,7 @@ static void sensitivity(void) {
 
     TRY(bazintroa_sensitivity_empty);
     bazintroa_sensitivity_summary empty = bazintroa_sensitivity_empty();
-    EXPECT(empty.read == 0 && empty.crossover_found == 0 && empty.bandwidth_kept == 0);
+    EXPECT(empty.read == 0 && empty.crossover_found == 0 && empty.bandwidth_state == 0);
 
     TRY(bazintroa_sensitivity_feed);
     bazintroa_sensitivity_fed fed = bazintroa_sensitivity_feed(empty, LISTS(omega, s_db, t_db, 2));
@@ -402,7 +402,7 @@ static void sensitivity(void) {
     EXPECT(bazintroa_sensitivity_summary_bandwidth(joined, &out) == 101 && left());
     joined = bazintroa_sensitivity_join(whole, empty);
     EXPECT(bazintroa_sensitivity_summary_bandwidth(joined, &out) == 101 && left());
-    empty.bandwidth_kept = 7;
+    empty.bandwidth_state = 7;
     EXPECT(bazintroa_sensitivity_summary_bandwidth(empty, &out) == 101 && left());
 }
 

@@ -38,7 +38,7 @@ plainOf s =
     record {
       read = endsMark (s .ends);
       «crossover_found» = crossingMark (s .crossover);
-      «bandwidth_kept» = keptMark (s .bandwidth);
+      «bandwidth_state» = keptMark (s .bandwidth);
       first = firstOf (s .ends);
       last = lastOf (s .ends);
       crossover = crossingValue (s .crossover);
@@ -51,5 +51,5 @@ fromPlain p =
     record {
       ends = markedEnds (p .read) (p .first) (p .last);
       crossover = markedCrossing (p .«crossover_found») (p .crossover);
-      bandwidth = markedKept (p .«bandwidth_kept») (p .bandwidth);
+      bandwidth = markedKept (p .«bandwidth_state») (p .bandwidth);
     }

@@ -36,7 +36,7 @@ pub struct SensitivitySummary {
 pub struct SensitivityPlain {
     pub read: u32,
     pub crossover_found: u32,
-    pub bandwidth_kept: u32,
+    pub bandwidth_state: u32,
     pub first: Reading,
     pub last: Reading,
     pub crossover: f64,
@@ -305,7 +305,7 @@ impl SensitivitySummary {
         SensitivityPlain {
             read: ends_mark(ends),
             crossover_found: sweep::crossing_mark(crossover),
-            bandwidth_kept: sweep::kept_mark(bandwidth),
+            bandwidth_state: sweep::kept_mark(bandwidth),
             first: first_of(ends),
             last: last_of(ends),
             crossover: sweep::crossing_value(crossover),
@@ -320,7 +320,7 @@ impl SensitivitySummary {
         SensitivitySummary {
             ends: marked_ends(plain.read, plain.first, plain.last),
             crossover: sweep::marked_crossing(plain.crossover_found, plain.crossover),
-            bandwidth: sweep::marked_kept(plain.bandwidth_kept, plain.bandwidth),
+            bandwidth: sweep::marked_kept(plain.bandwidth_state, plain.bandwidth),
         }
     }
 }

@@ -141,14 +141,14 @@ impl Summary for Sensitivity {
         let SensitivityPlain {
             read,
             crossover_found,
-            bandwidth_kept,
+            bandwidth_state,
             first,
             last,
             crossover,
             bandwidth,
         } = self.0;
         let numbers = |reading: SensitivityReading| [reading.omega, reading.s, reading.t];
-        let marks = [read, crossover_found, bandwidth_kept];
+        let marks = [read, crossover_found, bandwidth_state];
         held(
             marks,
             [numbers(first), numbers(last)],

@@ -67,7 +67,7 @@ fn any_sensitivity(random: &mut Random) -> SensitivityPlain {
     SensitivityPlain {
         read: mark(random),
         crossover_found: mark(random),
-        bandwidth_kept: mark(random),
+        bandwidth_state: mark(random),
         first: sensitivity_reading(random),
         last: sensitivity_reading(random),
         crossover: number(random),
