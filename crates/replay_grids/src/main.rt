@@ -71,10 +71,7 @@ fn answer(question: u64, tally: Tally) -> Tally {
     let room = vectors::number();
     let mut list = [0.0; 4200];
     let known = if question < 3 { question } else { 0 };
-    tally.count(
-        known,
-        ask_part(question, top, n, room as usize, &mut list),
-    )
+    tally.count(known, ask_part(question, top, n, room as usize, &mut list))
 }
 
 // A proved loop ends, and nothing says that the input does: at most a million cases are read, more than any file has.
