@@ -19,13 +19,13 @@ abbrev pub endsMark : Ends → ℕ
 endsMark Nothing = 0
 endsMark (Between a b) = 1
 
-abbrev pub firstOf : Ends → Reading
-firstOf Nothing = zeroReading
-firstOf (Between a b) = a
+abbrev pub firstEnd : Ends → Reading
+firstEnd Nothing = zeroReading
+firstEnd (Between a b) = a
 
-abbrev pub lastOf : Ends → Reading
-lastOf Nothing = zeroReading
-lastOf (Between a b) = b
+abbrev pub lastEnd : Ends → Reading
+lastEnd Nothing = zeroReading
+lastEnd (Between a b) = b
 
 -- any mark but 0 says that the readings count
 abbrev pub markedEnds : ℕ → Reading → Reading → Ends
@@ -39,8 +39,8 @@ plainOf s =
       read = endsMark (s .ends);
       «gain_found» = crossingMark (s .gain);
       «phase_found» = crossingMark (s .phase);
-      first = firstOf (s .ends);
-      last = lastOf (s .ends);
+      first = firstEnd (s .ends);
+      last = lastEnd (s .ends);
       gain = crossingValue (s .gain);
       phase = crossingValue (s .phase);
     }

@@ -8,7 +8,7 @@ ghost use Rattle.sweep.specs.Scan.{orElse};
 ghost use Rattle.sweep.specs.Runs.{leftAfter};
 ghost use Rattle.bode.specs.Bode.{readings, gainPair, phasePair, gainCrossover, phaseCrossover};
 ghost use Rattle.bode.specs.Summary.{endsOf, endsBehind, cutBetween, crossingAt, summaryOf, fedBy, joinOf, numberOfFed, leftBy, gainAnswer, phaseAnswer};
-ghost use Rattle.bode.specs.Plain.{zeroReading, endsMark, firstOf, lastOf, markedEnds, plainOf, fromPlain};
+ghost use Rattle.bode.specs.Plain.{zeroReading, endsMark, firstEnd, lastEnd, markedEnds, plainOf, fromPlain};
 use super::Reading;
 use sweep::Check;
 use sweep::Crossing;
@@ -157,8 +157,8 @@ fn ends_mark(ends: Ends) -> u32
     }
 }
 
-fn first_of(ends: Ends) -> Reading
-    ensures { λ r. ⌜ r ≡ firstOf ends ⌝ }
+fn first_end(ends: Ends) -> Reading
+    ensures { λ r. ⌜ r ≡ firstEnd ends ⌝ }
 {
     match ends {
         Ends::Nothing => zero_reading(),
@@ -166,8 +166,8 @@ fn first_of(ends: Ends) -> Reading
     }
 }
 
-fn last_of(ends: Ends) -> Reading
-    ensures { λ r. ⌜ r ≡ lastOf ends ⌝ }
+fn last_end(ends: Ends) -> Reading
+    ensures { λ r. ⌜ r ≡ lastEnd ends ⌝ }
 {
     match ends {
         Ends::Nothing => zero_reading(),
@@ -269,8 +269,8 @@ impl BodeSummary {
             read: ends_mark(ends),
             gain_found: sweep::crossing_mark(gain),
             phase_found: sweep::crossing_mark(phase),
-            first: first_of(ends),
-            last: last_of(ends),
+            first: first_end(ends),
+            last: last_end(ends),
             gain: sweep::crossing_value(gain),
             phase: sweep::crossing_value(phase),
         }

@@ -334,7 +334,7 @@ fn turned_away(e: FreqError) -> LocusPoint
 }
 
 // The point at a gain, whose polynomial may be a cubic.
-fn point_at(tf: TransferFn, gain: f64) -> LocusPoint
+fn left_point(tf: TransferFn, gain: f64) -> LocusPoint
     requires { ⌜ (1 ≤ tf .order) × (tf .order ≤ 8) ⌝ }
     ensures { λ r. ⌜ pointOf r ≡ leftPoint gain (counting (loopPolynomial tf gain)) ⌝ }
 {
@@ -357,7 +357,7 @@ pub fn locus_point(open_loop_tf: TransferFn, k_max: f64, n: usize, i: usize) -> 
 {
     match check_locus(open_loop_tf.order, k_max, n, i) {
         Check::Refused(e) => turned_away(e),
-        Check::Passed => point_at(open_loop_tf, gain_at(k_max, n, i)),
+        Check::Passed => left_point(open_loop_tf, gain_at(k_max, n, i)),
     }
 }
 

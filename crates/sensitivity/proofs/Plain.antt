@@ -1,12 +1,12 @@
 -- The plain numbers of a summary give it back. Assumes nothing.
 use mathlib.Core.Path.{_≡_, refl}
 use Rattle.sweep.proofs.Plain.{crossing-back, kept-back}
-use Rattle.sensitivity.specs.Plain.{endsMark, firstOf, lastOf, markedEnds, plainOf, fromPlain}
+use Rattle.sensitivity.specs.Plain.{endsMark, firstEnd, lastEnd, markedEnds, plainOf, fromPlain}
 use Rattle.sensitivity.specs.declared.summary.Ends.{Ends}
 use Rattle.sensitivity.specs.declared.summary.Ends.the-variants.{Nothing, Between}
 use Rattle.sensitivity.specs.declared.summary.SensitivitySummary.{SensitivitySummary}
 
-ends-back : (e : Ends) → markedEnds (endsMark e) (firstOf e) (lastOf e) ≡ e
+ends-back : (e : Ends) → markedEnds (endsMark e) (firstEnd e) (lastEnd e) ≡ e
 ends-back Nothing = refl
 ends-back (Between a b) = refl
 

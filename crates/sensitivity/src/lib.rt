@@ -179,7 +179,7 @@ fn equal_crossing(omega: &[f64], s: &[f64], t: &[f64]) -> Crossing
 }
 
 // The list's first T less 3. There is none in an empty list.
-fn level_of(t: &[f64]) -> f64
+fn level_at(t: &[f64]) -> f64
     ensures { λ r. ⌜ r ≡ levelAt (now (t .entry)) ⌝ }
 {
     if t.len() == 0 {
@@ -207,7 +207,7 @@ fn drop_crossing(omega: &[f64], s: &[f64], t: &[f64]) -> Crossing
     requires { ⌜ SameLength (now omega) (now s) (now t) ⌝ }
     ensures { λ r. ⌜ r ≡ bandwidthOf (zip3 reading (now (omega .entry)) (now (s .entry)) (now (t .entry))) ⌝ }
 {
-    drop_below(level_of(t), omega, s, t)
+    drop_below(level_at(t), omega, s, t)
 }
 
 // The frequency where |S| and |T| are first equal.

@@ -9,7 +9,7 @@ ghost use Rattle.sweep.specs.Scan.{orElse, firstPair, zip3};
 ghost use Rattle.sweep.specs.Runs.{leftAfter};
 ghost use Rattle.sensitivity.specs.Scans.{reading, equalPair, dropPair, sensitivityCrossover};
 ghost use Rattle.sensitivity.specs.Summary.{endsOf, endsBehind, cutBetween, crossingAt, levelIn, summaryOf, fedBy, joinOf, numberOfFed, leftBy, crossoverAnswer, bandwidthAnswer};
-ghost use Rattle.sensitivity.specs.Plain.{zeroReading, endsMark, firstOf, lastOf, markedEnds, plainOf, fromPlain};
+ghost use Rattle.sensitivity.specs.Plain.{zeroReading, endsMark, firstEnd, lastEnd, markedEnds, plainOf, fromPlain};
 use super::Reading;
 use sweep::Check;
 use sweep::Crossing;
@@ -195,8 +195,8 @@ fn ends_mark(ends: Ends) -> u32
     }
 }
 
-fn first_of(ends: Ends) -> Reading
-    ensures { λ r. ⌜ r ≡ firstOf ends ⌝ }
+fn first_end(ends: Ends) -> Reading
+    ensures { λ r. ⌜ r ≡ firstEnd ends ⌝ }
 {
     match ends {
         Ends::Nothing => zero_reading(),
@@ -204,8 +204,8 @@ fn first_of(ends: Ends) -> Reading
     }
 }
 
-fn last_of(ends: Ends) -> Reading
-    ensures { λ r. ⌜ r ≡ lastOf ends ⌝ }
+fn last_end(ends: Ends) -> Reading
+    ensures { λ r. ⌜ r ≡ lastEnd ends ⌝ }
 {
     match ends {
         Ends::Nothing => zero_reading(),
@@ -306,8 +306,8 @@ impl SensitivitySummary {
             read: ends_mark(ends),
             crossover_found: sweep::crossing_mark(crossover),
             bandwidth_state: sweep::kept_mark(bandwidth),
-            first: first_of(ends),
-            last: last_of(ends),
+            first: first_end(ends),
+            last: last_end(ends),
             crossover: sweep::crossing_value(crossover),
             bandwidth: sweep::kept_value(bandwidth),
         }

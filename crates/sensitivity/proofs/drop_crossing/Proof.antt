@@ -13,7 +13,7 @@ returns c =
     let start = c .before .before .before .before .before in
     let readings = zip3 reading (start .args .omega .now) (start .args .s .now) (start .args .t .now) in
     c .drop-below .ensures
-    ∙ ap (λ (x : Float). firstPair (dropPair x) readings) (c .before .level-of .ensures ∙ sym (level-of-lists _ _ _ (start .pre)))
+    ∙ ap (λ (x : Float). firstPair (dropPair x) readings) (c .before .level-at .ensures ∙ sym (level-of-lists _ _ _ (start .pre)))
 
 pub drop-crossing-spec : {M : Type 1} → statement M
 drop-crossing-spec = tie.close (tie.spec (λ c κs. search needs) (λ c κs. search needs) returns)

@@ -2,8 +2,8 @@ use mathlib.Core.Path.{_∙_}
 use borrow.Author.Needs.{needs}
 use Rattle.scalar.proofs.Patterns.{nan-by-division}
 use Rattle.sensitivity.proofs.Levels.{level-none, level-some}
-use Rattle.sensitivity.proofs.level_of.Statement.{statement}
-use Rattle.sensitivity.proofs.level_of.Tie as tie
+use Rattle.sensitivity.proofs.level_at.Statement.{statement}
+use Rattle.sensitivity.proofs.level_at.Tie as tie
 
 returns : tie.Need-returns
 returns c = nan-by-division ∙ level-none (c .before .args .t .now) (c .if1 .taken)
@@ -11,5 +11,5 @@ returns c = nan-by-division ∙ level-none (c .before .args .t .now) (c .if1 .ta
 returns-2 : tie.Need-returns-2
 returns-2 c = level-some (c .before .before .args .t .now) (c .before .if1 .left)
 
-pub level-of-spec : {M : Type 1} → statement M
-level-of-spec = tie.close (tie.spec returns (λ c. search needs) returns-2)
+pub level-at-spec : {M : Type 1} → statement M
+level-at-spec = tie.close (tie.spec returns (λ c. search needs) returns-2)

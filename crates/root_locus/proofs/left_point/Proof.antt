@@ -3,8 +3,8 @@ use borrow.Author.Needs.{needs}
 use Rattle.root_locus.specs.declared.Roots.{Roots}
 use Rattle.root_locus.specs.Roots.{degreeCases}
 use Rattle.root_locus.specs.Locus.{pointOf, foundPoint, leftPoint}
-use Rattle.root_locus.proofs.point_at.Statement.{statement}
-use Rattle.root_locus.proofs.point_at.Tie as tie
+use Rattle.root_locus.proofs.left_point.Statement.{statement}
+use Rattle.root_locus.proofs.left_point.Tie as tie
 
 returns : tie.Need-returns
 unfolding leftPoint degreeCases
@@ -16,8 +16,8 @@ returns-2 c =
     let e = c .before .before .compute-closed-loop-poles .ensures in
     rw (sym (ap (λ (r : Roots). r .cubic) e) ∙ c .before .if1 .left, e)
 
-pub point-at-spec : {M : Type 1} → statement M
-point-at-spec =
+pub left-point-spec : {M : Type 1} → statement M
+left-point-spec =
     tie.close
     (tie.spec
     (λ c κs. search needs)
