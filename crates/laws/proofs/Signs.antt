@@ -12,9 +12,14 @@ signed s nan = false
 signed s (inf t) = Bool·beq s t
 signed s (fin t m e) = Bool·beq s t
 
-same : (s : Bool) → T (Bool·beq s s)
+pub same : (s : Bool) → T (Bool·beq s s)
 same true = tt
 same false = tt
+
+-- what holds of both branches
+pub either : (P : Float → Type 0) (b : Bool) {x y : Float} → P x → P y → P (cond b x y)
+either P true h k = h
+either P false h k = k
 
 pub round-signed : (f : Format) (s : Bool) (a c : ℕ) → T (signed s (round f s a c))
 round-signed f s a c =
@@ -27,11 +32,7 @@ round-signed f s a c =
     of-odd d zero k l = unfold odd in same s
     of-odd d (suc q) k l = unfold odd in same s
 
-    either : (b : Bool) (x y : Float) → T (signed s x) → T (signed s y) → T (signed s (cond b x y))
-    either true x y h k = h
-    either false x y h k = k
-
     of-units : (q k : ℕ) → T (signed s (units f s q k))
     of-units q k =
         unfold units in
-        either (ltb (q * 2 ^ k) (2 ^ (low f + suc (emax f)))) (odd (suc (prec f)) s q k (low f)) (inf s) (of-odd (suc (prec f)) q k (low f)) (same s)
+        either (λ x. T (signed s x)) (ltb (q * 2 ^ k) (2 ^ (low f + suc (emax f)))) (of-odd (suc (prec f)) q k (low f)) (same s)

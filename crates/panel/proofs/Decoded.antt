@@ -13,7 +13,7 @@ use Rattle.sweep.proofs.Scans.{pair-place, place-found, place-missing}
 use Rattle.bode.specs.Bode.{reading, gainPair, phasePair, gainCrossover, phaseCrossover}
 use Rattle.bode.specs.declared.Reading.{Reading}
 use Rattle.panel.specs.Panel.{readingAt, decoded}
-use Rattle.panel.specs.Asked.{crossoverOf, pairOf, betweenOf, soughtOf, placeOf, crossAt, firstPlace, firstOf}
+use Rattle.panel.specs.Asked.{crossoverOf, pairOf, betweenOf, crossAt, firstOf}
 use Rattle.panel.specs.declared.Asked.{Asked}
 use Rattle.panel.specs.declared.Asked.the-variants.{Gain, Phase}
 
@@ -37,25 +37,25 @@ module _ (asked : Asked) (b : List ℕ) where
   betweenAt : ℕ → Float
   betweenAt k = betweenOf asked (readingAt b k) (readingAt b (k + 1))
 
-pair-said : (asked : Asked) (b : List ℕ) (k : ℕ) → pairOf asked (readingAt b k) (readingAt b (k + 1)) ≡ crossIf (crossAt (soughtOf asked) (placeOf asked) b k) (betweenAt asked b k)
+pair-said : (asked : Asked) (b : List ℕ) (k : ℕ) → pairOf asked (readingAt b k) (readingAt b (k + 1)) ≡ crossIf (crossAt asked b k) (betweenAt asked b k)
 unfolding betweenAt crossAt readingAt gainPair phasePair
 pair-said Gain b k = refl
 pair-said Phase b k = refl
 
 module _ (asked : Asked) (b : List ℕ) where
   scan-is : firstPair (pairOf asked) (decoded b) ≡ crossIf (ltb (firstOf asked b + 1) (length b / 24)) (betweenAt asked b (firstOf asked b))
-  unfolding firstPlace
+  unfolding firstOf
   scan-is =
       let other = reading nan nan nan in
       rw (decoded-length b) at
-      (pair-place (pairOf asked) other (crossAt (soughtOf asked) (placeOf asked) b) (betweenAt asked b) (decoded b)
+      (pair-place (pairOf asked) other (crossAt asked b) (betweenAt asked b) (decoded b)
       (λ k h. let l : k + 1 < length b / 24 = rw (decoded-length b) at h in rw (decoded-at b k other (omega arith), decoded-at b (k + 1) other l) (pair-said asked b k)))
 
   pub crossing-found : {i : ℕ} {v : Float} → i ≡ firstOf asked b → i + 1 < length b / 24
       → v ≡ betweenOf asked (readingAt b i) (readingAt b (i + 1)) → At v ≡ crossoverOf asked (decoded b)
-  unfolding betweenAt firstPlace
+  unfolding betweenAt firstOf
   crossing-found e h ev = place-found (pairOf asked) (decoded b) (length b / 24) _ (betweenAt asked b) scan-is e h ev ∙ sym (crossover-pairs asked (decoded b))
 
   pub crossing-missing : {i : ℕ} → i ≡ firstOf asked b → length b / 24 ≤ i + 1 → Missing ≡ crossoverOf asked (decoded b)
-  unfolding firstPlace
+  unfolding firstOf
   crossing-missing e h = place-missing (pairOf asked) (decoded b) (length b / 24) _ (betweenAt asked b) scan-is e h ∙ sym (crossover-pairs asked (decoded b))

@@ -1,4 +1,4 @@
-pub mod Patterns
+pub mod Sides
 pub mod Decoded
 pub mod Places
 pub mod Replies

@@ -1,72 +1,88 @@
--- The scan that goes by places of bytes: at a value of reading k it is at 24 * k + place. Assumes nothing.
-use Prim.Native.Nat.{ℕ, zero, _+_, _*_, _-_, _/_, _%_, _<_, _≤_}
-use mathlib.Core.Path.{_≡_, refl, sym, ap}
+-- The scan that goes by places of bytes: at the value of reading k it is at 24 * k + placeOf asked. Assumes nothing.
+use Prim.Native.Nat.{ℕ, zero, _+_, _*_, _-_, _/_, _%_, _^_, _<_, _≤_}
+use mathlib.Core.Path.{_≡_, sym}
 use mathlib.Core.Bool.{Bool, true, false}
 use mathlib.Core.List.{List}
 use native.Mathlib.Omega.{arith}
 use lib.ListN.{length}
-use lib.Ieee.{Float, binary64, ofBits}
 use Rattle.wire.specs.Bytes.{u64At, f64At}
 use Rattle.sweep.specs.Scan.{crossesBy, firstWhere}
-use Rattle.sweep.specs.declared.Sought.{Sought}
 use Rattle.sweep.proofs.Search.{search-next, search-hit, search-end}
-use Rattle.panel.specs.Asked.{placeOf, Whole, crossAt, firstPlace}
+use Rattle.panel.specs.Asked.{soughtOf, placeOf, crossAt, firstOf, liesOn, sideOf, Scanning}
 use Rattle.panel.specs.declared.Asked.{Asked}
 use Rattle.panel.specs.declared.Asked.the-variants.{Gain, Phase}
+use Rattle.panel.specs.declared.Side.{Side}
+use Rattle.panel.proofs.Sides.{one-side-quiet, own-side}
 
--- The scan is at a value a: what is left to look through gives the whole search's outcome.
-pub record Scanning (sought : Sought) (place : ℕ) (b : List ℕ) (at : ℕ) (a : Float) : Type 0 where
-  pub on : at ≡ 24 * (at / 24) + place
-  pub there : at + 8 ≤ length b
-  pub value : a ≡ f64At b at
-  pub left : firstWhere (crossAt sought place b) (length b / 24 - 1 - at / 24) (at / 24) ≡ firstPlace sought place b
+-- A run on a side: where any value lies on it, the one at a place does.
+pub record Aside (asked : Asked) (side : Side) (b : List ℕ) (at : ℕ) : Type 0 where
+  pub small : u64At b at < 2 ^ 64
+  pub own : (x : ℕ) → liesOn asked side x ≡ true → liesOn asked side (u64At b at) ≡ true
 
--- the place of the value that tells
-pub whole-readings : {b : List ℕ} (asked : Asked) → length b % 24 ≡ 0 → Whole (placeOf asked) b
-whole-readings Gain h = record { whole = h; inside = omega arith }
-whole-readings Phase h = record { whole = h; inside = omega arith }
+inside : (asked : Asked) → placeOf asked + 8 ≤ 24
+inside Gain = omega arith
+inside Phase = omega arith
 
-module _ (sought : Sought) (place : ℕ) (b : List ℕ) (w : Whole place b) where
+module _ (asked : Asked) (b : List ℕ) where
   -- fewer than two readings
-  pub few : length b < 48 → 0 ≡ firstPlace sought place b
-  unfolding firstPlace firstWhere
+  pub few : length b < 48 → 0 ≡ firstOf asked b
+  unfolding firstOf firstWhere
   few h = let e : length b / 24 - 1 ≡ zero = omega arith in rw e
 
-  pub scanning : 48 ≤ length b → Scanning sought place b place (f64At b place)
-  unfolding firstPlace
-  scanning h =
-      let e : place / 24 ≡ 0 = omega arith in
+  pub scanning : length b % 24 ≡ 0 → 48 ≤ length b → Scanning asked b (placeOf asked)
+  unfolding firstOf
+  scanning w h =
+      let p = inside asked in
+      let e : placeOf asked / 24 ≡ 0 = omega arith in
       let f : length b / 24 - 1 - 0 ≡ length b / 24 - 1 = omega arith in
-      record { on = omega arith; there = omega arith; value = refl; left = rw (e, f) }
+      record { whole = w; on = omega arith; there = omega arith; left = rw (e, f) }
 
-  module _ (at : ℕ) (a : Float) (s : Scanning sought place b at a) where
-    -- the value behind, and whether the two cross
-    crossed : (v : Float) (t : Bool) → v ≡ f64At b (at + 24) → crossesBy sought a v ≡ t → crossAt sought place b (at / 24) ≡ t
+  module _ {at : ℕ} (s : Scanning asked b at) where
+    -- whether the reading and the one behind it cross
+    crossed : {t : Bool} → crossesBy (soughtOf asked) (f64At b at) (f64At b (at + 24)) ≡ t → crossAt asked b (at / 24) ≡ t
     unfolding crossAt
-    crossed v t e h =
+    crossed h =
         let on = s .on in
-        let here : 24 * (at / 24) + place ≡ at = sym on in
-        let next : 24 * (at / 24 + 1) + place ≡ at + 24 = omega arith in
-        rw (here, next, ← s .value, ← e) h
+        let here : 24 * (at / 24) + placeOf asked ≡ at = sym on in
+        let next : 24 * (at / 24 + 1) + placeOf asked ≡ at + 24 = omega arith in
+        rw (here, next) h
 
-    module _ (v : Float) (more : at + 24 ≤ length b - 8) (e : v ≡ f64At b (at + 24)) where
-      pub scan-hit : crossesBy sought a v ≡ true → at / 24 ≡ firstPlace sought place b
-      scan-hit h = search-hit (crossAt sought place b) (length b / 24 - 1) (s .left) (omega arith) (crossed v true e h)
+    pub scan-end : length b - 8 < at + 24 → at / 24 ≡ firstOf asked b
+    scan-end h =
+        let p = inside asked in
+        let on = s .on in
+        let w = s .whole in
+        search-end (crossAt asked b) (length b / 24 - 1) (s .left) (omega arith)
 
-      pub scan-next : crossesBy sought a v ≡ false → Scanning sought place b (at + 24) v
+    module _ (more : at + 24 ≤ length b - 8) where
+      pub scan-hit : crossesBy (soughtOf asked) (f64At b at) (f64At b (at + 24)) ≡ true → at / 24 ≡ firstOf asked b
+      scan-hit h =
+          let on = s .on in
+          search-hit (crossAt asked b) (length b / 24 - 1) (s .left) (omega arith) (crossed h)
+
+      pub scan-next : crossesBy (soughtOf asked) (f64At b at) (f64At b (at + 24)) ≡ false → Scanning asked b (at + 24)
       scan-next h =
+          let on = s .on in
           let q : (at + 24) / 24 ≡ at / 24 + 1 = omega arith in
           record {
+            whole = s .whole;
             on = omega arith;
             there = omega arith;
-            value = e;
-            left = rw q (search-next (crossAt sought place b) (length b / 24 - 1) (s .left) (omega arith) (crossed v false e h));
+            left = rw q (search-next (crossAt asked b) (length b / 24 - 1) (s .left) (omega arith) (crossed h));
           }
 
-    pub scan-end : length b - 8 < at + 24 → at / 24 ≡ firstPlace sought place b
-    scan-end h = search-end (crossAt sought place b) (length b / 24 - 1) (s .left) (omega arith)
+      -- both lie on one side
+      pub scan-on : (side : Side) {v : ℕ} → Aside asked side b at → v ≡ u64At b (at + 24) → v < 2 ^ 64 → liesOn asked side v ≡ true
+          → Scanning asked b (at + 24) × Aside asked side b (at + 24)
+      unfolding f64At
+      scan-on side {v} a ev f h =
+          let lies : liesOn asked side (u64At b (at + 24)) ≡ true = rw ev at h in
+          let small : u64At b (at + 24) < 2 ^ 64 = rw ev at f in (
+            scan-next (one-side-quiet asked side (u64At b at) (u64At b (at + 24)) (a .small) small (a .own v h) lies),
+            record { small = small; own = λ x k. lies },
+          )
 
--- the number of a pattern that was read
-pub pattern-read : {n : ℕ} (b : List ℕ) (at : ℕ) → n ≡ u64At b at → ofBits binary64 n ≡ f64At b at
-unfolding f64At
-pattern-read b at e = ap (ofBits binary64) e
+    -- the side of the value
+    pub aside : {side : Side} {v : ℕ} → v ≡ u64At b at → v < 2 ^ 64 → side ≡ sideOf asked v → Aside asked side b at
+    aside {side} {v} ev f e =
+        record { small = rw ev at f; own = λ x h. rw (e, ← ev) (own-side asked v x (rw e at h)) }

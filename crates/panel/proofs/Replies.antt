@@ -1,18 +1,14 @@
 -- What conditions that are passed mean, and a reply under another name of its outcome. Assumes nothing.
 use Prim.Native.Nat.{ℕ, _≤_, _/_, _%_}
-use mathlib.Core.Path.{_≡_, refl, sym, subst}
-use mathlib.Core.Bool.{Bool, true, false, not}
+use mathlib.Core.Path.{_≡_, subst}
+use mathlib.Core.Bool.{not}
 use mathlib.Core.List.{List}
 use native.Mathlib.Omega.{arith}
-use borrow.Author.Tests.{eqb-true, ltb-false}
+use borrow.Author.Tests.{eqb-true, ltb-false, not-false}
 use lib.Dec.{eqb, ltb}
 use Rattle.laws.specs.Outcome.{Outcome}
 use Rattle.laws.proofs.Outcome.{when-passed}
 use Rattle.panel.specs.Panel.{panelRefusal, Replies}
-
-not-false : (b : Bool) → not b ≡ false → b ≡ true
-not-false true h = refl
-not-false false h = sym h
 
 pub passed : (n room : ℕ) → panelRefusal n room ≡ 0 → (n % 24 ≡ 0) × (8 ≤ room)
 unfolding panelRefusal

@@ -3,14 +3,11 @@
 ghost use mathlib.Core.Path.{_≡_};
 ghost use Prim.Native.Nat.{_+_, _*_, _%_, _≤_};
 ghost use lib.ListN.{length};
-ghost use lib.Ieee.{binary64, ofBits};
 ghost use Rattle.sweep.specs.Refusal.{refusalOf};
 ghost use Rattle.sweep.specs.Answer.{crossingOutcome};
-ghost use Rattle.sweep.specs.Scan.{crossesBy};
-ghost use Rattle.sweep.specs.declared.Sought.the-variants.{Zero};
 ghost use Rattle.bode.specs.Bode.{gainCrossover, phaseCrossover};
 ghost use Rattle.panel.specs.Panel.{readingAt, decoded, panelRefusal, panelOutcome, Replies};
-ghost use Rattle.panel.specs.Asked.{crossoverOf, betweenOf, firstOf};
+ghost use Rattle.panel.specs.Asked.{crossoverOf, betweenOf, soughtOf, placeOf, liesOn, sideOf, firstOf, Scanning};
 ghost use Rattle.panel.specs.declared.Asked.the-variants.{Gain, Phase};
 use bode::Reading;
 use sweep::Check;
@@ -47,74 +44,104 @@ fn reading_at(readings: &[u8], i: usize) -> Reading
     }
 }
 
-// Whether two values cross 0, by their bit patterns. They are read as numbers only where they have two signs or one is 0.
-fn crosses_zero(a: u64, b: u64) -> bool
-    ensures { λ r. ⌜ r ≡ crossesBy Zero (ofBits binary64 a) (ofBits binary64 b) ⌝ }
+// What is sought between the values of two neighbours.
+fn sought(asked: Asked) -> Sought
+    ensures { λ r. ⌜ r ≡ soughtOf asked ⌝ }
+{
+    match asked {
+        Asked::Gain => Sought::Zero,
+        Asked::Phase => Sought::Level(-180.0),
+    }
+}
+
+// The place of the value that tells in the bytes of a reading.
+fn place(asked: Asked) -> usize
+    ensures { λ r. ⌜ r ≡ placeOf asked ⌝ }
+{
+    match asked {
+        Asked::Gain => 8,
+        Asked::Phase => 16,
+    }
+}
+
+// A side of what is sought. Two values that lie on one do not cross; no value lies on the third.
+enum Side {
+    Above,
+    Below,
+    Neither,
+}
+
+// Whether a value lies on a side, by its bit pattern. Of 0 dB: a NaN, which crosses nothing, goes by its sign. Of -180
+// degrees: what is not above counts as below, a NaN too.
+fn lies(asked: Asked, side: Side, pattern: u64) -> bool
+    ensures { λ r. ⌜ r ≡ liesOn asked side pattern ⌝ }
 {
     let sign = 0x8000_0000_0000_0000;
-    let same = (sign <= a) == (sign <= b);
-    if same & (a % sign != 0) & (b % sign != 0) {
-        return false;
+    match asked {
+        Asked::Gain => match side {
+            Side::Above => (0 < pattern) & (pattern < sign),
+            Side::Below => sign < pattern,
+            Side::Neither => false,
+        },
+        Asked::Phase => match side {
+            Side::Above => wire::f64_from_bits(pattern) > -180.0,
+            Side::Below => !(wire::f64_from_bits(pattern) > -180.0),
+            Side::Neither => false,
+        },
     }
-    sweep::crosses(Sought::Zero, wire::f64_from_bits(a), wire::f64_from_bits(b))
 }
 
-// The first reading whose magnitude crosses 0 dB with that of the one behind it: the last reading where none does. The
-// loop's test is the one that `u64_at` makes, so that it is made once for each value.
-fn first_gain(readings: &[u8]) -> usize
-    requires { ⌜ length (now readings) % 24 ≡ 0 ⌝ }
-    ensures { λ r. ⌜ r ≡ firstOf Gain (now (readings .entry)) ⌝ }
+// The side on which a value lies.
+fn side_of(asked: Asked, pattern: u64) -> Side
+    ensures { λ r. ⌜ r ≡ sideOf asked pattern ⌝ }
 {
-    let n = readings.len();
-    if n < 48 {
-        return 0;
+    if lies(asked, Side::Above, pattern) {
+        return Side::Above;
     }
-    let last = n - 8;
-    let mut at: usize = 8;
-    let mut a = wire::u64_at(readings, at);
+    if lies(asked, Side::Below, pattern) {
+        return Side::Below;
+    }
+    Side::Neither
+}
+
+// The last of the readings from `from` on that lie on its side. The loop's test is the one that `u64_at` makes, so that
+// it is made once for each value.
+fn end_of_run(asked: Asked, readings: &[u8], from: usize) -> usize
+    requires { ⌜ Scanning asked (now readings) from ⌝ }
+    ensures { λ r. ⌜ (from ≤ r) × Scanning asked (now (readings .entry)) r ⌝ }
+{
+    let last = readings.len() - 8;
+    let side = side_of(asked, wire::u64_at(readings, from));
+    let mut at = from;
     while at + 24 <= last {
-        let b = wire::u64_at(readings, at + 24);
-        if crosses_zero(a, b) {
-            return at / 24;
+        if !lies(asked, side, wire::u64_at(readings, at + 24)) {
+            return at;
         }
-        a = b;
         at += 24;
     }
-    at / 24
+    at
 }
 
-// The same of the phase and -180 degrees.
-fn first_phase(readings: &[u8]) -> usize
-    requires { ⌜ length (now readings) % 24 ≡ 0 ⌝ }
-    ensures { λ r. ⌜ r ≡ firstOf Phase (now (readings .entry)) ⌝ }
-{
-    let n = readings.len();
-    if n < 48 {
-        return 0;
-    }
-    let last = n - 8;
-    let mut at: usize = 16;
-    let mut a = wire::f64_at(readings, at);
-    while at + 24 <= last {
-        let b = wire::f64_at(readings, at + 24);
-        if sweep::crosses(Sought::Level(-180.0), a, b) {
-            return at / 24;
-        }
-        a = b;
-        at += 24;
-    }
-    at / 24
-}
-
-// The first reading that crosses with the one behind it.
+// The first reading that crosses with the one behind it: the last reading where none does.
 fn first_of(asked: Asked, readings: &[u8]) -> usize
     requires { ⌜ length (now readings) % 24 ≡ 0 ⌝ }
     ensures { λ r. ⌜ r ≡ firstOf asked (now (readings .entry)) ⌝ }
 {
-    match asked {
-        Asked::Gain => first_gain(readings),
-        Asked::Phase => first_phase(readings),
+    let n = readings.len();
+    if n < 48 {
+        return 0;
     }
+    let last = n - 8;
+    let mut at = end_of_run(asked, readings, place(asked));
+    while at + 24 <= last {
+        let a = wire::f64_at(readings, at);
+        let b = wire::f64_at(readings, at + 24);
+        if sweep::crosses(sought(asked), a, b) {
+            return at / 24;
+        }
+        at = end_of_run(asked, readings, at + 24);
+    }
+    at / 24
 }
 
 // The first crossing.
