@@ -1,5 +1,5 @@
 pub mod Sides
 pub mod Decoded
-pub mod Places
+pub mod Scanning
 pub mod Replies
 pub mod Laws

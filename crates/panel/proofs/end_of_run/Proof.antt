@@ -4,7 +4,7 @@ use native.Mathlib.Omega.{arith}
 use borrow.Author.Needs.{needs}
 use borrow.Author.Tests.{not-false}
 use Rattle.panel.specs.Asked.{Scanning}
-use Rattle.panel.proofs.Places.{Aside, aside, scan-on}
+use Rattle.panel.proofs.Scanning.{Aside, aside, scan-on}
 use Rattle.panel.proofs.end_of_run.Statement.{statement}
 use Rattle.panel.proofs.end_of_run.Tie as tie
 

@@ -3,7 +3,7 @@ use mathlib.Core.Path.{sym, _∙_}
 use native.Mathlib.Omega.{arith}
 use borrow.Author.Needs.{needs}
 use Rattle.panel.specs.Asked.{Scanning}
-use Rattle.panel.proofs.Places.{few, scanning, scan-hit, scan-next, scan-end}
+use Rattle.panel.proofs.Scanning.{few, scanning, scan-hit, scan-next, scan-end}
 use Rattle.panel.proofs.first_of.Statement.{statement}
 use Rattle.panel.proofs.first_of.Tie as tie
 
