@@ -43,7 +43,7 @@ extern "C" {
 /* The square root, IEEE 754's squareRoot to nearest: of -0 it is -0, of less it is NaN. */
 double bazintroa_sqrt(double x);
 
-/* x with its sign cleared, that of -0 too. */
+/* x with its sign cleared, that of -0 too. A NaN stays a NaN, of either sign. */
 double bazintroa_abs(double x);
 
 /* ---- complex numbers: real part, then imaginary part (as C's double complex) ---- */

@@ -1,7 +1,7 @@
 //! Safe functions over the proved archives of `crates/c_api`, `c_summaries` and `panel`.
 //!
 //! What is taken from the Rust that was ported, `core::frequency_domain` of oxictl, has its meaning
-//! and its name, but for these: [`Refusal`] is `FreqError` there, with fewer cases; [`Reading`] is
+//! and its name, but for these: [`Refusal`] is `FreqError` there, which has four cases; [`Reading`] is
 //! `BodePoint`; [`LocusPoint`] is `RootLocusPoint`, and [`locus_point`] gives one of those that
 //! `compute_root_locus` gives; [`TransferFn::eval`] is `eval_tf_complex`. Summaries, the filling of
 //! grids, [`gain_crossover_readings`], [`Complex::divide_or_zero`], [`pairs`] and [`panel`] are not in

@@ -1,4 +1,4 @@
-//! Random numbers for the comparisons and the benchmarks.
+//! Random numbers for the comparisons, the benchmarks and `damage`.
 
 /// SplitMix64: the same numbers from the same seed.
 pub struct Random(u64);

@@ -91,7 +91,7 @@ impl fmt::Display for Refusal {
             }
             Refusal::NoRoom => "the lent list is too short for what is to be written",
             Refusal::TooMany => "there are more than 4,096 readings or points",
-            Refusal::WrongOrder => "the order of a locus is 0, or one of a loop is above 8",
+            Refusal::WrongOrder => "the order of a locus is 0, or one that is evaluated is above 8",
             Refusal::WrongIndex => "there is no point with this index",
             Refusal::WrongByteCount => "the number of bytes is no multiple of 24",
         })

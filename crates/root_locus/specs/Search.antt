@@ -32,7 +32,7 @@ evalPoly norm z = pushAll (horner z) (fromReal f1) norm
 unfoldable pub factor : List Complex → ℕ → ℕ → Complex → Complex
 factor z i j acc = cond (eqb j i) acc (product acc (difference (getD z i nowhere) (getD z j nowhere)))
 
--- the product of the differences of root i to the others of `degree` roots, in rising j from 1
+-- 1 times the differences of root i to the others of `degree` roots, in rising j
 unfoldable pub differences : ℕ → List Complex → ℕ → Complex
 differences degree z i = countUp (factor z i) degree 0 (fromReal f1)
 

@@ -13,7 +13,7 @@ use lib.Ieee.Fits.{down-pos, odd-fits, nan-fits}
 use lib.Ieee.Bits.{ofBits-toBits}
 use lib.Ieee.Exact.{HasValue, odd-sign, units-val}
 use lib.Ieee.Scale.{finite}
-use lib.Ieee.Positive.{positive, positive-finite, value-pos, first-pos, positive-of-value, above}
+use lib.Ieee.Positive.{positive, positive-finite, value-pos, first-pos, positive-of-value}
 use Rattle.scalar.specs.Sqrt.{root, rounded, sqrtOf, inUnits, Nearer, Nearest}
 use Rattle.scalar.proofs.Squares.{square-even, square-next, square-odd}
 use Rattle.scalar.proofs.WholeRoot.{IsRoot, square-lt, root-is-root, rounded-down, rounded-up}
