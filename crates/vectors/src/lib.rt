@@ -1,10 +1,10 @@
 // Support for the replay programs: the oracle's vectors are read from standard input, a word of eight bytes at a
-// time, and answers are counted. No contract can speak of what is read or written: a function that reads promises at
-// most what becomes of a lent list's length.
+// time, and answers are counted. No contract can speak of what is read or written: a function that reads a list
+// promises its length, and that the places behind it stay.
 
 ghost use mathlib.Core.Path.{_≡_};
-ghost use Prim.Native.Nat.{_<_, _≤_};
-ghost use lib.ListN.{length};
+ghost use Prim.Native.Nat.{_<_};
+ghost use Rattle.vectors.specs.Made.{Made};
 ghost use Rattle.vectors.specs.Tally.{placeOf, noneAsked, countedIn};
 
 pub enum Word {
@@ -41,7 +41,7 @@ fn float_at(i: usize, pad: u64, first: f64) -> f64 {
 // Makes a list of `count` floats that are read, with `pad` copies of the first of them before it, and answers its
 // length: 0 where `count` is 0. A list that does not fit is cut off.
 pub fn padded(list: &mut [f64], pad: u64, count: u64) -> usize
-    ensures { λ r. ⌜ (r ≤ length (now (list .entry))) × (length (now (list .exit)) ≡ length (now (list .entry))) ⌝ }
+    ensures { λ r. ⌜ Made pad count (now (list .entry)) (now (list .exit)) r ⌝ }
 {
     if count == 0 {
         return 0;
@@ -61,7 +61,7 @@ pub fn padded(list: &mut [f64], pad: u64, count: u64) -> usize
 
 // Fills the first `count` places of a list.
 pub fn floats(list: &mut [f64], count: u64) -> usize
-    ensures { λ r. ⌜ (r ≤ length (now (list .entry))) × (length (now (list .exit)) ≡ length (now (list .entry))) ⌝ }
+    ensures { λ r. ⌜ Made 0 count (now (list .entry)) (now (list .exit)) r ⌝ }
 {
     padded(list, 0, count)
 }
