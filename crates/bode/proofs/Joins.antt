@@ -5,21 +5,31 @@ use mathlib.Core.Bool.{Bool, true, false}
 use mathlib.Core.List.{List, [], _++_}
 use Rattle.sweep.specs.Answer.{crossingOutcome}
 use Rattle.sweep.specs.Runs.{Cuts, listOf, joinedUp}
+use Rattle.sweep.proofs.Scans.{some-append, first-behind, last-behind, crossing-behind}
 use Rattle.sweep.proofs.Runs.{join-assoc, neutral-before, neutral-behind, fed-uncut, joined-uncut}
 use Rattle.bode.specs.Bode.{gainPair, phasePair, gainCrossover, phaseCrossover}
-use Rattle.bode.specs.Summary.{summaryOf, behind, fedBy, joinOf, gainAnswer, phaseAnswer}
+use Rattle.bode.specs.Summary.{zeroReading, summaryOf, behind, fedBy, joinOf, gainAnswer, phaseAnswer}
 use Rattle.bode.specs.declared.Reading.{Reading}
-use Rattle.bode.proofs.Cuts.{ends-append, crossing-append}
 
 -- ---- the two laws
 
+behind-append : (l : List Reading) (m : Bool) (k : List Reading) (n o : Bool) → behind (summaryOf l m) (summaryOf k n) ≡ summaryOf (l ++ k) o
+unfolding behind summaryOf gainCrossover phaseCrossover
+behind-append l m k n o = λ i. record {
+  read = some-append l k i;
+  first = first-behind zeroReading l k i;
+  last = last-behind zeroReading l k i;
+  gain = crossing-behind zeroReading gainPair l k i;
+  phase = crossing-behind zeroReading phasePair l k i;
+}
+
 pub fed-append : (l : List Reading) (m : Bool) (k : List Reading) → fedBy (summaryOf l m) k ≡ summaryOf (l ++ k) m
-unfolding fedBy behind summaryOf gainCrossover phaseCrossover
-fed-append l m k = rw (ends-append l k, crossing-append gainPair l k, crossing-append phasePair l k)
+unfolding fedBy
+fed-append l m k = behind-append l m k false m
 
 pub join-append : (l : List Reading) (m : Bool) (k : List Reading) (n : Bool) → joinOf (summaryOf l m) (summaryOf k n) ≡ summaryOf (l ++ k) true
-unfolding joinOf behind summaryOf gainCrossover phaseCrossover
-join-append l m k n = rw (ends-append l k, crossing-append gainPair l k, crossing-append phasePair l k)
+unfolding joinOf
+join-append l m k n = behind-append l m k n true
 
 -- ---- the answers of a list's summary are the scans of the list, under either mark
 

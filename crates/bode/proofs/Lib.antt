@@ -1,6 +1,5 @@
 pub mod Readings
 pub mod Laws
-pub mod Cuts
 pub mod Joins
 pub mod Runs
 pub mod Plain

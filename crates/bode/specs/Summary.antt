@@ -1,60 +1,48 @@
 -- The summary of a Bode sweep, and what feeds and joins make of it. Definitions only.
-use Prim.Native.Nat.{ℕ}
-use mathlib.Core.Bool.{Bool, false}
-use mathlib.Core.List.{List, [], _∷_}
+use Prim.Native.Nat.{ℕ, _-_}
+use mathlib.Core.Bool.{Bool, false, _&&_, _||_, cond}
+use mathlib.Core.List.{List}
+use lib.ListN.{length, getD}
 use lib.Ieee.{Float}
 use Rattle.laws.specs.Outcome.{Outcome}
+use Rattle.scalar.specs.Scalar.{f0}
 use Rattle.sweep.specs.Answer.{crossingOutcome}
 use Rattle.sweep.specs.Refusal.{numberOf, listsRefusal}
 use Rattle.sweep.specs.Runs.{Calls, book, isTaken}
-use Rattle.sweep.specs.Scan.{orElse, lastOf}
-use Rattle.sweep.specs.declared.Crossing.{Crossing}
-use Rattle.sweep.specs.declared.Crossing.the-variants.{Missing}
-use Rattle.bode.specs.Bode.{readings, gainPair, phasePair, gainCrossover, phaseCrossover}
+use Rattle.sweep.specs.Scan.{orElse, notEmpty, crossingAt}
+use Rattle.bode.specs.Bode.{reading, readings, gainPair, phasePair, gainCrossover, phaseCrossover}
 use Rattle.bode.specs.declared.Reading.{Reading}
-use Rattle.bode.specs.declared.summary.Ends.{Ends}
-use Rattle.bode.specs.declared.summary.Ends.the-variants.{Nothing, Between}
 use Rattle.bode.specs.declared.summary.BodeSummary.{BodeSummary}
 use Rattle.bode.specs.declared.summary.BodeFed.{BodeFed}
 use Rattle.bode.specs.declared.summary.BodeFed.the-variants.{Taken, Refused}
 
--- ---- the ends of a list, and where two lists meet
-
--- the first and the last reading of a list
-unfoldable pub endsOf : List Reading → Ends
-endsOf [] = Nothing
-endsOf (x ∷ l) = Between x (lastOf x l)
-
--- the ends of one list behind another
-unfoldable pub endsBehind : Ends → Ends → Ends
-endsBehind Nothing f = f
-endsBehind (Between a b) Nothing = Between a b
-endsBehind (Between a b) (Between c d) = Between a d
-
--- the last reading of the one and the first of the other, which are neighbours where the lists meet
-unfoldable pub cutBetween : Ends → Ends → Ends
-cutBetween Nothing f = Nothing
-cutBetween (Between a b) Nothing = Nothing
-cutBetween (Between a b) (Between c d) = Between b c
-
--- the crossing of these two, if there are any
-unfoldable pub crossingAt : (Reading → Reading → Crossing) → Ends → Crossing
-crossingAt p Nothing = Missing
-crossingAt p (Between a b) = p a b
-
 -- ---- the summary
 
--- the summary of a list of readings. The mark, whether a join is among the calls, does not show in it.
+-- what stands in the places of the first and the last reading where there are none
+abbrev pub zeroReading : Reading
+zeroReading = reading f0 f0 f0
+
+-- The summary of a list of readings: whether it has any, the first and the last of them, and the first crossings. The mark, whether a join is among the
+-- calls, does not show in it.
 unfoldable pub summaryOf : List Reading → Bool → BodeSummary
-summaryOf l m = record { ends = endsOf l; gain = gainCrossover l; phase = phaseCrossover l }
+summaryOf l m =
+    record {
+      read = notEmpty l;
+      first = getD l 0 zeroReading;
+      last = getD l (length l - 1) zeroReading;
+      gain = gainCrossover l;
+      phase = phaseCrossover l;
+    }
 
 -- The readings of t behind those of s. The first crossing is that of s, else that of the two readings where they meet, else that of t.
 unfoldable pub behind : BodeSummary → BodeSummary → BodeSummary
 behind s t =
     record {
-      ends = endsBehind (s .ends) (t .ends);
-      gain = orElse (orElse (s .gain) (crossingAt gainPair (cutBetween (s .ends) (t .ends)))) (t .gain);
-      phase = orElse (orElse (s .phase) (crossingAt phasePair (cutBetween (s .ends) (t .ends)))) (t .phase);
+      read = s .read || t .read;
+      first = cond (s .read) (s .first) (t .first);
+      last = cond (t .read) (t .last) (s .last);
+      gain = orElse (orElse (s .gain) (crossingAt gainPair (s .read && t .read) (s .last) (t .first))) (t .gain);
+      phase = orElse (orElse (s .phase) (crossingAt phasePair (s .read && t .read) (s .last) (t .first))) (t .phase);
     }
 
 -- a feed puts the summary of the part's readings behind s

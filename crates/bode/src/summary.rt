@@ -1,29 +1,26 @@
 // A summary of a Bode sweep, made empty, fed in parts and joined. It answers what the scans answer on all its readings.
 ghost use mathlib.Core.Path.{_≡_};
-ghost use mathlib.Core.Bool.{false};
+ghost use mathlib.Core.Bool.{false, cond};
 ghost use mathlib.Core.List.{[]};
+ghost use lib.ListN.{getD};
 ghost use Rattle.sweep.specs.Refusal.{SameLength, listsRefusal};
 ghost use Rattle.sweep.specs.Answer.{crossingOutcome};
-ghost use Rattle.sweep.specs.Scan.{orElse};
+ghost use Rattle.sweep.specs.Scan.{orElse, crossingAt};
 ghost use Rattle.sweep.specs.Runs.{leftAfter};
 ghost use Rattle.bode.specs.Bode.{readings, gainPair, phasePair, gainCrossover, phaseCrossover};
-ghost use Rattle.bode.specs.Summary.{endsOf, endsBehind, cutBetween, crossingAt, summaryOf, fedBy, joinOf, numberOfFed, leftBy, gainAnswer, phaseAnswer};
-ghost use Rattle.bode.specs.Plain.{zeroReading, endsMark, firstEnd, lastEnd, markedEnds, plainOf, fromPlain};
+ghost use Rattle.bode.specs.Summary.{zeroReading, summaryOf, fedBy, joinOf, numberOfFed, leftBy, gainAnswer, phaseAnswer};
+ghost use Rattle.bode.specs.Plain.{plainOf, fromPlain};
 use super::Reading;
 use sweep::Check;
 use sweep::Crossing;
 use sweep::FreqError;
 use sweep::Sought;
 
-// Two readings of a sweep, or none: its first and its last one, or the two next to each other where it was cut.
-pub enum Ends {
-    Nothing,
-    Between(Reading, Reading),
-}
-
-// Where the readings begin and end, and the first crossing of 0 dB and of -180 degrees among them.
+// Whether there are readings, the first and the last of them, and the first crossing of 0 dB and of -180 degrees.
 pub struct BodeSummary {
-    ends: Ends,
+    read: bool,
+    first: Reading,
+    last: Reading,
     gain: Crossing,
     phase: Crossing,
 }
@@ -47,44 +44,33 @@ pub enum BodeFed {
     Refused(FreqError),
 }
 
-// The first and the last of a part's readings.
-fn ends_of(omega: &[f64], db: &[f64], phase: &[f64]) -> Ends
+// What stands in the places of the first and the last reading where there are none.
+fn zero_reading() -> Reading
+    ensures { λ r. ⌜ r ≡ zeroReading ⌝ }
+{
+    Reading {
+        omega: 0.0,
+        db: 0.0,
+        phase: 0.0,
+    }
+}
+
+// Reading i of a part, or zeros where it has none.
+fn reading_or_zero(omega: &[f64], db: &[f64], phase: &[f64], i: usize) -> Reading
     requires { ⌜ SameLength (now omega) (now db) (now phase) ⌝ }
-    ensures { λ r. ⌜ r ≡ endsOf (readings (now (omega .entry)) (now (db .entry)) (now (phase .entry))) ⌝ }
+    ensures { λ r. ⌜ r ≡ getD (readings (now (omega .entry)) (now (db .entry)) (now (phase .entry))) i zeroReading ⌝ }
 {
-    let n = omega.len();
-    if n == 0 {
-        return Ends::Nothing;
+    if i < omega.len() {
+        return super::reading_at(omega, db, phase, i);
     }
-    let first = super::reading_at(omega, db, phase, 0);
-    let last = super::reading_at(omega, db, phase, n - 1);
-    Ends::Between(first, last)
+    zero_reading()
 }
 
-// The ends of two sweeps, one behind the other.
-fn ends_behind(earlier: Ends, later: Ends) -> Ends
-    ensures { λ r. ⌜ r ≡ endsBehind earlier later ⌝ }
+// The one reading or the other.
+fn either(test: bool, a: Reading, b: Reading) -> Reading
+    ensures { λ r. ⌜ r ≡ cond test a b ⌝ }
 {
-    match earlier {
-        Ends::Nothing => later,
-        Ends::Between(first, _) => match later {
-            Ends::Nothing => earlier,
-            Ends::Between(_, last) => Ends::Between(first, last),
-        },
-    }
-}
-
-// The two readings next to each other where one sweep goes over into another.
-fn cut_between(earlier: Ends, later: Ends) -> Ends
-    ensures { λ r. ⌜ r ≡ cutBetween earlier later ⌝ }
-{
-    match earlier {
-        Ends::Nothing => Ends::Nothing,
-        Ends::Between(_, last) => match later {
-            Ends::Nothing => Ends::Nothing,
-            Ends::Between(first, _) => Ends::Between(last, first),
-        },
-    }
+    if test { a } else { b }
 }
 
 // The crossing of -180 degrees between two neighbours.
@@ -97,22 +83,23 @@ fn phase_pair(a: Reading, b: Reading) -> Crossing
     Crossing::Missing
 }
 
-fn gain_at(cut: Ends) -> Crossing
-    ensures { λ r. ⌜ r ≡ crossingAt gainPair cut ⌝ }
+// The crossing where one sweep goes over into another: a is the last reading of the one and b the first of the other.
+fn gain_at(both: bool, a: Reading, b: Reading) -> Crossing
+    ensures { λ r. ⌜ r ≡ crossingAt gainPair both a b ⌝ }
 {
-    match cut {
-        Ends::Nothing => Crossing::Missing,
-        Ends::Between(a, b) => super::gain_pair(a, b),
+    if both {
+        return super::gain_pair(a, b);
     }
+    Crossing::Missing
 }
 
-fn phase_at(cut: Ends) -> Crossing
-    ensures { λ r. ⌜ r ≡ crossingAt phasePair cut ⌝ }
+fn phase_at(both: bool, a: Reading, b: Reading) -> Crossing
+    ensures { λ r. ⌜ r ≡ crossingAt phasePair both a b ⌝ }
 {
-    match cut {
-        Ends::Nothing => Crossing::Missing,
-        Ends::Between(a, b) => phase_pair(a, b),
+    if both {
+        return phase_pair(a, b);
     }
+    Crossing::Missing
 }
 
 // What was found already, else the part's own first crossing of 0 dB. The part is scanned only where it decides.
@@ -137,61 +124,15 @@ fn phase_from(found: Crossing, omega: &[f64], db: &[f64], phase: &[f64]) -> Cros
     }
 }
 
-fn zero_reading() -> Reading
-    ensures { λ r. ⌜ r ≡ zeroReading ⌝ }
-{
-    Reading {
-        omega: 0.0,
-        db: 0.0,
-        phase: 0.0,
-    }
-}
-
-// The ends as plain numbers: a mark, and the two readings.
-fn ends_mark(ends: Ends) -> u32
-    ensures { λ r. ⌜ r ≡ endsMark ends ⌝ }
-{
-    match ends {
-        Ends::Nothing => 0,
-        Ends::Between(_, _) => 1,
-    }
-}
-
-fn first_end(ends: Ends) -> Reading
-    ensures { λ r. ⌜ r ≡ firstEnd ends ⌝ }
-{
-    match ends {
-        Ends::Nothing => zero_reading(),
-        Ends::Between(first, _) => first,
-    }
-}
-
-fn last_end(ends: Ends) -> Reading
-    ensures { λ r. ⌜ r ≡ lastEnd ends ⌝ }
-{
-    match ends {
-        Ends::Nothing => zero_reading(),
-        Ends::Between(_, last) => last,
-    }
-}
-
-// The ends of such numbers. Any mark but 0 is read as 1.
-fn marked_ends(mark: u32, first: Reading, last: Reading) -> Ends
-    ensures { λ r. ⌜ r ≡ markedEnds mark first last ⌝ }
-{
-    if mark == 0 {
-        return Ends::Nothing;
-    }
-    Ends::Between(first, last)
-}
-
 impl BodeSummary {
     // The summary of no readings.
     pub fn empty() -> BodeSummary
         ensures { λ r. ⌜ r ≡ summaryOf [] false ⌝ }
     {
         BodeSummary {
-            ends: Ends::Nothing,
+            read: false,
+            first: zero_reading(),
+            last: zero_reading(),
             gain: Crossing::Missing,
             phase: Crossing::Missing,
         }
@@ -202,15 +143,21 @@ impl BodeSummary {
         requires { ⌜ SameLength (now omega) (now db) (now phase) ⌝ }
         ensures { λ r. ⌜ r ≡ fedBy self (readings (now (omega .entry)) (now (db .entry)) (now (phase .entry))) ⌝ }
     {
-        let earlier = self.ends;
         let kept_gain = self.gain;
         let kept_phase = self.phase;
-        let later = ends_of(omega, db, phase);
-        let cut = cut_between(earlier, later);
+        let own_last = self.last;
+        let read = omega.len() != 0;
+        let both = self.read & read;
+        let first = reading_or_zero(omega, db, phase, 0);
+        let last = reading_or_zero(omega, db, phase, sweep::last_place(omega.len()));
+        let gain_before = sweep::or_else(kept_gain, gain_at(both, own_last, first));
+        let phase_before = sweep::or_else(kept_phase, phase_at(both, own_last, first));
         BodeSummary {
-            ends: ends_behind(earlier, later),
-            gain: gain_from(sweep::or_else(kept_gain, gain_at(cut)), omega, db, phase),
-            phase: phase_from(sweep::or_else(kept_phase, phase_at(cut)), omega, db, phase),
+            read: self.read | read,
+            first: either(self.read, self.first, first),
+            last: either(read, last, own_last),
+            gain: gain_from(gain_before, omega, db, phase),
+            phase: phase_from(phase_before, omega, db, phase),
         }
     }
 
@@ -230,17 +177,25 @@ impl BodeSummary {
     pub fn join(self, other: BodeSummary) -> BodeSummary
         ensures { λ r. ⌜ r ≡ joinOf self other ⌝ }
     {
-        let earlier = self.ends;
-        let later = other.ends;
         let own_gain = self.gain;
         let own_phase = self.phase;
         let other_gain = other.gain;
         let other_phase = other.phase;
-        let cut = cut_between(earlier, later);
+        let both = self.read & other.read;
+        let own_last = self.last;
+        let other_first = other.first;
         BodeSummary {
-            ends: ends_behind(earlier, later),
-            gain: sweep::or_else(sweep::or_else(own_gain, gain_at(cut)), other_gain),
-            phase: sweep::or_else(sweep::or_else(own_phase, phase_at(cut)), other_phase),
+            read: self.read | other.read,
+            first: either(self.read, self.first, other_first),
+            last: either(other.read, other.last, own_last),
+            gain: sweep::or_else(
+                sweep::or_else(own_gain, gain_at(both, own_last, other_first)),
+                other_gain,
+            ),
+            phase: sweep::or_else(
+                sweep::or_else(own_phase, phase_at(both, own_last, other_first)),
+                other_phase,
+            ),
         }
     }
 
@@ -262,15 +217,16 @@ impl BodeSummary {
     pub fn to_plain(self) -> BodePlain
         ensures { λ r. ⌜ r ≡ plainOf self ⌝ }
     {
-        let ends = self.ends;
+        let first = self.first;
+        let last = self.last;
         let gain = self.gain;
         let phase = self.phase;
         BodePlain {
-            read: ends_mark(ends),
+            read: sweep::read_mark(self.read),
             gain_found: sweep::crossing_mark(gain),
             phase_found: sweep::crossing_mark(phase),
-            first: first_end(ends),
-            last: last_end(ends),
+            first,
+            last,
             gain: sweep::crossing_value(gain),
             phase: sweep::crossing_value(phase),
         }
@@ -280,8 +236,12 @@ impl BodeSummary {
     pub fn from_plain(plain: BodePlain) -> BodeSummary
         ensures { λ r. ⌜ r ≡ fromPlain plain ⌝ }
     {
+        let first = plain.first;
+        let last = plain.last;
         BodeSummary {
-            ends: marked_ends(plain.read, plain.first, plain.last),
+            read: plain.read != 0,
+            first,
+            last,
             gain: sweep::marked_crossing(plain.gain_found, plain.gain),
             phase: sweep::marked_crossing(plain.phase_found, plain.phase),
         }

@@ -3,7 +3,7 @@ use Prim.Native.Nat.{ℕ}
 use mathlib.Core.Path.{_≡_, refl, _∙_, ap}
 use mathlib.Core.Bool.{Bool, true, false}
 use mathlib.Core.List.{List, [], _++_}
-use Rattle.sweep.specs.Plain.{crossingMark, crossingValue, markedCrossing, keptMark, keptValue, markedKept}
+use Rattle.sweep.specs.Plain.{readMark, markedRead, crossingMark, crossingValue, markedCrossing, keptMark, keptValue, markedKept}
 use Rattle.sweep.specs.Runs.{Calls, book, mark, Reached, leftAfter, isTaken}
 use Rattle.sweep.specs.declared.Crossing.{Crossing}
 use Rattle.sweep.specs.declared.Crossing.the-variants.{At, Missing}
@@ -12,6 +12,10 @@ use Rattle.sweep.specs.declared.Kept.the-variants.{Found, Absent, NotKep
 use Rattle.sweep.proofs.Runs.{whole}
 
 -- ---- what is written is read back
+
+pub read-back : (b : Bool) → markedRead (readMark b) ≡ b
+read-back true = refl
+read-back false = refl
 
 pub crossing-back : (c : Crossing) → markedCrossing (crossingMark c) (crossingValue c) ≡ c
 crossing-back (At x) = refl

@@ -1,19 +1,20 @@
 -- The laws of a scan: one list behind another, what "none" means, and the place of the first pair that crosses. Assumes nothing.
 use Prim.Native.Nat.{ℕ, zero, suc, _+_, _-_, _<_, _≤_}
 use mathlib.Core.Path.{_≡_, refl, sym, _∙_, ap}
-use mathlib.Core.Bool.{Bool, true, false}
-use mathlib.Core.List.{List, [], _∷_, _++_}
+use mathlib.Core.Bool.{Bool, true, false, not, _&&_, _||_, cond}
+use mathlib.Core.List.{List, [], _∷_, _++_, append-nil}
 use native.Mathlib.Nat.{add-zero, zero-add, add-suc, suc-add}
 use native.Mathlib.Numerals.{add-one}
 use native.Mathlib.Omega.{arith}
-use borrow.Author.Tests.{lt-ltb, le-ltb}
-use lib.Dec.{ltb}
-use lib.ListN.{length, getD}
+use borrow.Author.Tests.{lt-ltb, le-ltb, ne-eqb}
+use lib.Dec.{eqb, ltb}
+use lib.ListN.{length, getD, List·getD-eq-default}
 use lib.Ieee.{Float, nan}
 use Rattle.laws.specs.Outcome.{none}
 use Rattle.laws.proofs.Outcome.{apart}
 use Rattle.sweep.specs.Answer.{crossingOutcome, notKept, keptOutcome, keptOf, orKept}
-use Rattle.sweep.specs.Scan.{orElse, firstFrom, firstPair, lastOf, Neighbours, crossIf, zip3, at3, firstWhere}
+use Rattle.sweep.specs.Refusal.{SameLength}
+use Rattle.sweep.specs.Scan.{orElse, firstFrom, firstPair, notEmpty, crossingAt, Neighbours, crossIf, zip3, at3, firstWhere}
 use Rattle.sweep.proofs.Search.{both-more}
 use Rattle.sweep.specs.declared.Crossing.{Crossing}
 use Rattle.sweep.specs.declared.Crossing.the-variants.{At, Missing}
@@ -46,19 +47,52 @@ crossing-kept Missing h = apart h (omega arith)
 
 -- ---- one list behind another
 module _ {R : Type 0} where
-  pub last-append : (x : R) (xs ys : List R) → lastOf x (xs ++ ys) ≡ lastOf (lastOf x xs) ys
-  last-append x [] ys = refl
-  last-append x (y ∷ xs) ys = last-append y xs ys
+  -- the last of a reading x and the list behind it
+  abbrev lastOf : R → List R → R
+  lastOf x [] = x
+  lastOf x (y ∷ ys) = lastOf y ys
 
-  pub first-append : (p : R → R → Crossing) (x : R) (xs ys : List R) → firstFrom p x (xs ++ ys) ≡ orElse (firstFrom p x xs) (firstFrom p (lastOf x xs) ys)
+  first-append : (p : R → R → Crossing) (x : R) (xs ys : List R) → firstFrom p x (xs ++ ys) ≡ orElse (firstFrom p x xs) (firstFrom p (lastOf x xs) ys)
   first-append p x [] ys = refl
   first-append p x (y ∷ xs) ys =
       ap (orElse (p x y)) (first-append p y xs ys) ∙ sym (orElse-assoc (p x y) (firstFrom p y xs) (firstFrom p (lastOf y xs) ys))
 
+  last-append : (x : R) (xs ys : List R) → lastOf x (xs ++ ys) ≡ lastOf (lastOf x xs) ys
+  last-append x [] ys = refl
+  last-append x (y ∷ xs) ys = last-append y xs ys
+
   -- the last of a list by its place
-  pub last-at : (other x : R) (xs : List R) → lastOf x xs ≡ getD (x ∷ xs) (length xs) other
+  last-at : (other x : R) (xs : List R) → getD (x ∷ xs) (length xs) other ≡ lastOf x xs
   last-at other x [] = refl
   last-at other x (y ∷ xs) = last-at other y xs
+
+  last-place : (other x : R) (xs : List R) → getD (x ∷ xs) (length (x ∷ xs) - 1) other ≡ lastOf x xs
+  last-place other x xs = let e : length (x ∷ xs) - 1 ≡ length xs = omega arith in rw e (last-at other x xs)
+
+  -- Whether there are readings, the first, the last and the first crossing, of k behind l. A list without readings has `other` in the places of its first and its last.
+  pub some-append : (l k : List R) → (notEmpty l || notEmpty k) ≡ notEmpty (l ++ k)
+  some-append [] k = refl
+  some-append (x ∷ l) k = refl
+
+  pub some-length : (l : List R) → not (eqb (length l) 0) ≡ notEmpty l
+  some-length [] = refl
+  some-length (x ∷ l) = rw (ne-eqb (length (x ∷ l)) 0 (λ (e : length (x ∷ l) ≡ 0). omega arith))
+
+  module _ (other : R) where
+    pub first-behind : (l k : List R) → cond (notEmpty l) (getD l 0 other) (getD k 0 other) ≡ getD (l ++ k) 0 other
+    first-behind [] k = refl
+    first-behind (x ∷ l) k = refl
+
+    pub last-behind : (l k : List R) → cond (notEmpty k) (getD k (length k - 1) other) (getD l (length l - 1) other) ≡ getD (l ++ k) (length (l ++ k) - 1) other
+    last-behind l [] = rw (append-nil l)
+    last-behind [] (y ∷ k) = refl
+    last-behind (x ∷ l) (y ∷ k) = last-place other y k ∙ sym (last-place other x (l ++ (y ∷ k)) ∙ last-append x l (y ∷ k))
+
+    pub crossing-behind : (p : R → R → Crossing) (l k : List R)
+        → orElse (orElse (firstPair p l) (crossingAt p (notEmpty l && notEmpty k) (getD l (length l - 1) other) (getD k 0 other))) (firstPair p k) ≡ firstPair p (l ++ k)
+    crossing-behind p [] k = refl
+    crossing-behind p (x ∷ l) [] = rw (append-nil l) (orElse-missing _ ∙ orElse-missing _)
+    crossing-behind p (x ∷ l) (y ∷ k) = rw (last-place other x l) (orElse-assoc (firstFrom p x l) (p (lastOf x l) y) (firstFrom p y k) ∙ sym (first-append p x l (y ∷ k)))
 
 -- ---- "none" exactly where no two neighbours cross
 
@@ -154,6 +188,20 @@ module _ {R : Type 0} (f : Float → Float → Float → R) where
   zip3-at other (x ∷ xs) (y ∷ ys) [] k h = absurd (omega arith)
   zip3-at other (x ∷ xs) (y ∷ ys) (z ∷ zs) zero h = refl
   zip3-at other (x ∷ xs) (y ∷ ys) (z ∷ zs) (suc k) h = zip3-at other xs ys zs k (omega arith)
+
+  -- whether there are readings, and the reading at a place, of three lists of one length
+  module _ (xs ys zs : List Float) (same : SameLength xs ys zs) where
+    pub zip3-same : length (zip3 f xs ys zs) ≡ length xs
+    zip3-same = zip3-length xs ys zs (length xs) refl (same .second) (same .third)
+
+    pub zip3-some : not (eqb (length xs) 0) ≡ notEmpty (zip3 f xs ys zs)
+    zip3-some = rw (← zip3-same) (some-length (zip3 f xs ys zs))
+
+    pub zip3-in : (other : R) {i : ℕ} {r : R} → i < length xs → r ≡ at3 f xs ys zs i → r ≡ getD (zip3 f xs ys zs) i other
+    zip3-in other {i} h e = let n = zip3-same in e ∙ sym (zip3-at other xs ys zs i (omega arith))
+
+    pub zip3-past : (other : R) {i : ℕ} → length xs ≤ i → other ≡ getD (zip3 f xs ys zs) i other
+    zip3-past other {i} h = let n = zip3-same in sym (List·getD-eq-default (zip3 f xs ys zs) other (omega arith))
 
   -- the first pair of three lists
   pub scan3 : (p : R → R → Crossing) (test : ℕ → Bool) (value : ℕ → Float) (xs ys zs : List Float) (n : ℕ) → length xs ≡ n → length ys ≡ n → length zs ≡ n

@@ -1,6 +1,6 @@
--- Crossings as plain numbers, a mark and a value, for a host to keep between calls. Marks and values are 0 where there is nothing. Definitions only.
+-- What a summary keeps as plain numbers, for a host to keep between calls: marks and values. Marks and values are 0 where there is nothing. Definitions only.
 use Prim.Native.Nat.{ℕ}
-use mathlib.Core.Bool.{cond}
+use mathlib.Core.Bool.{Bool, true, false, not, cond}
 use lib.Dec.{eqb}
 use lib.Ieee.{Float}
 use Rattle.scalar.specs.Scalar.{f0}
@@ -8,6 +8,14 @@ use Rattle.sweep.specs.declared.Crossing.{Crossing}
 use Rattle.sweep.specs.declared.Crossing.the-variants.{At, Missing}
 use Rattle.sweep.specs.declared.Kept.{Kept}
 use Rattle.sweep.specs.declared.Kept.the-variants.{Found, Absent, NotKept}
+
+-- 1 where there are readings, or 0; any mark but 0 says that there are
+abbrev pub readMark : Bool → ℕ
+readMark true = 1
+readMark false = 0
+
+abbrev pub markedRead : ℕ → Bool
+markedRead mark = not (eqb mark 0)
 
 -- 1 and the frequency, or 0 and 0
 abbrev pub crossingMark : Crossing → ℕ

@@ -31,10 +31,16 @@ abbrev pub firstPair : {R : Type 0} → (R → R → Crossing) → List R → Cr
 firstPair p [] = Missing
 firstPair p (x ∷ xs) = firstFrom p x xs
 
--- the last of a reading x and the list behind it
-abbrev pub lastOf : {R : Type 0} → R → List R → R
-lastOf x [] = x
-lastOf x (y ∷ ys) = lastOf y ys
+-- ---- one list behind another
+
+-- whether a list has readings
+abbrev pub notEmpty : {R : Type 0} → List R → Bool
+notEmpty [] = false
+notEmpty (x ∷ l) = true
+
+-- The crossing where one list goes over into another: a is the last reading of the first, b the first of the second, and both say whether each has readings.
+abbrev pub crossingAt : {R : Type 0} → (R → R → Crossing) → Bool → R → R → Crossing
+crossingAt p both a b = cond both (p a b) Missing
 
 -- ---- two neighbours
 

@@ -1,11 +1,11 @@
 // What the entries share: the reasons for turning a call away, each with the number that document 01 gives it; what scans
 // and grids answer, also as plain numbers for a host; the first crossing among neighbours; interpolation.
 ghost use mathlib.Core.Path.{_≡_};
-ghost use Prim.Native.Nat.{_+_};
+ghost use Prim.Native.Nat.{_+_, _-_};
 ghost use lib.Dec.{ltb};
 ghost use Rattle.sweep.specs.Refusal.{numberOf, refusalOf, scanRefusal, listsRefusal, gridRefusal};
 ghost use Rattle.sweep.specs.Answer.{outcomeOf, crossingOutcome, keptOf};
-ghost use Rattle.sweep.specs.Plain.{crossingMark, crossingValue, markedCrossing, keptMark, keptValue, markedKept};
+ghost use Rattle.sweep.specs.Plain.{readMark, crossingMark, crossingValue, markedCrossing, keptMark, keptValue, markedKept};
 ghost use Rattle.sweep.specs.Scan.{orElse, crossesBy, between, firstIndex};
 ghost use Rattle.sweep.specs.declared.Sought.the-variants.{Zero};
 
@@ -137,7 +137,14 @@ pub fn kept_of(crossing: Crossing) -> Kept
     }
 }
 
-// A crossing as plain numbers, for a host to keep: 1 and its frequency, or 0 and 0.
+// What a summary holds as plain numbers, for a host to keep. Whether it has readings: 1 or 0.
+pub fn read_mark(read: bool) -> u32
+    ensures { λ r. ⌜ r ≡ readMark read ⌝ }
+{
+    if read { 1 } else { 0 }
+}
+
+// A crossing: 1 and its frequency, or 0 and 0.
 pub fn crossing_mark(crossing: Crossing) -> u32
     ensures { λ r. ⌜ r ≡ crossingMark crossing ⌝ }
 {
@@ -256,6 +263,16 @@ pub fn first_index(sought: Sought, values: &[f64]) -> usize
         i += 1;
     }
     i
+}
+
+// The last place of a list of n, and 0 where it is empty.
+pub fn last_place(n: usize) -> usize
+    ensures { λ r. ⌜ r ≡ n - 1 ⌝ }
+{
+    if n == 0 {
+        return 0;
+    }
+    n - 1
 }
 
 // Whether i and i + 1 are places of a list of n.

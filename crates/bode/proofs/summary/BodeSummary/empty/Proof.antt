@@ -1,15 +1,12 @@
-use mathlib.Core.Path.{refl}
+use borrow.Author.Needs.{needs}
 use Rattle.bode.specs.Bode.{gainCrossover, phaseCrossover}
-use Rattle.bode.specs.Summary.{endsOf, summaryOf}
+use Rattle.bode.specs.Summary.{summaryOf}
 use Rattle.bode.proofs.summary.BodeSummary.empty.Statement.{statement}
 use Rattle.bode.proofs.summary.BodeSummary.empty.Tie as tie
 
 returns : tie.Need-returns
-unfolding summaryOf endsOf gainCrossover phaseCrossover
-returns c = refl
+unfolding summaryOf gainCrossover phaseCrossover
+returns c = cc
 
 pub empty-spec : {M : Type 1} → statement M
-empty-spec =
-    tie.close
-    (tie.spec
-    returns)
+empty-spec = tie.close (tie.spec (λ c κs. search needs) (λ c κs. search needs) returns)

@@ -15,8 +15,8 @@ returns c =
       gain .or-else2 .ensures,
       gain .before .or-else .ensures,
       gain .before .before .gain-at .ensures,
-      ends .ends-behind .ensures,
-      ends .before .cut-between .ensures,
+      ends .either2 .ensures,
+      ends .before .either .ensures,
     )
 
 pub join-spec : {M : Type 1} → statement M
