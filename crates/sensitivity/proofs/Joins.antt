@@ -1,18 +1,21 @@
 -- Feeding and joining summaries of lists: one law each, from which the others follow. A part that is fed, or a summary that is joined, leaves the summary of
 -- the one list behind the other; so it does not matter where a sweep is cut, nor in which bracketing the parts are joined. Assumes nothing.
+use Prim.Native.Nat.{_-_}
 use mathlib.Core.Path.{_≡_, refl, sym, _∙_, ap}
-use mathlib.Core.Bool.{Bool, true, false}
+use mathlib.Core.Bool.{Bool, true, false, _&&_}
 use mathlib.Core.List.{List, [], _∷_, _++_}
+use lib.ListN.{length, getD}
 use Rattle.sweep.specs.Answer.{crossingOutcome, keptOutcome, keptOf, orKept}
 use Rattle.sweep.specs.Runs.{Cuts, listOf, joinedUp}
-use Rattle.sweep.specs.Scan.{orElse, firstPair}
+use Rattle.sweep.specs.Scan.{orElse, firstPair, notEmpty, crossingAt}
 use Rattle.sweep.specs.declared.Crossing.{Crossing}
-use Rattle.sweep.proofs.Scans.{orElse-assoc, kept-outcome, kept-or}
+use Rattle.sweep.specs.declared.Kept.the-variants.{NotKept}
+use Rattle.sweep.proofs.Scans.{orElse-assoc, kept-outcome, kept-or, some-append, first-behind, last-behind, crossing-behind}
 use Rattle.sweep.proofs.Runs.{join-assoc, neutral-before, neutral-behind, fed-uncut, joined-uncut}
-use Rattle.sensitivity.specs.Scans.{equalPair, dropPair, levelOf, sensitivityCrossover, bandwidthOf}
-use Rattle.sensitivity.specs.Summary.{endsOf, endsBehind, cutBetween, crossingAt, levelIn, bandwidthUnder, summaryOf, fedBy, joinOf, crossoverAnswer, bandwidthAnswer, bandwidthOutcome}
+use Rattle.sensitivity.specs.Scans.{zeroReading, equalPair, dropPair, levelBy, levelOf, sensitivityCrossover, bandwidthOf}
+use Rattle.sensitivity.specs.Summary.{bandwidthUnder, summaryOf, joinOf, dropBehind, fedBy, crossoverAnswer, bandwidthAnswer, bandwidthOutcome}
 use Rattle.sensitivity.specs.declared.Reading.{Reading}
-use Rattle.sensitivity.proofs.Cuts.{ends-append, crossing-append, level-in-ends}
+use Rattle.sensitivity.specs.declared.summary.SensitivitySummary.{SensitivitySummary}
 
 -- ---- the bandwidth of one list behind another
 
@@ -22,34 +25,46 @@ unfolding bandwidthOf levelOf
 same-level [] k = refl
 same-level (x ∷ l) k = refl
 
-level-behind : (l k : List Reading) → levelIn (endsBehind (endsOf l) (endsOf k)) ≡ levelOf (l ++ k)
-level-behind l k = ap levelIn (ends-append l k) ∙ level-in-ends (l ++ k)
-
-kept-append : (l k : List Reading) → orKept (keptOf (bandwidthOf l))
-    (orElse (crossingAt (dropPair (levelOf (l ++ k))) (cutBetween (endsOf l) (endsOf k))) (firstPair (dropPair (levelOf (l ++ k))) k)) ≡ keptOf (bandwidthOf (l ++ k))
-kept-append l k =
+kept-append : (l k : List Reading) (m : Bool) → orKept (keptOf (bandwidthOf l)) (dropBehind (levelOf (l ++ k)) (summaryOf l m) k) ≡ keptOf (bandwidthOf (l ++ k))
+unfolding dropBehind summaryOf
+kept-append l k m =
     let p = dropPair (levelOf (l ++ k)) in
-    let cut = crossingAt p (cutBetween (endsOf l) (endsOf k)) in
+    let cut = crossingAt p (notEmpty l && notEmpty k) (getD l (length l - 1) zeroReading) (getD k 0 zeroReading) in
     let whole : firstPair p (l ++ k) ≡ bandwidthOf (l ++ k) = unfold bandwidthOf in refl in
     kept-or (bandwidthOf l) (orElse cut (firstPair p k))
-    ∙ ap keptOf (ap (λ (a : Crossing). orElse a (orElse cut (firstPair p k))) (same-level l k) ∙ sym (orElse-assoc (firstPair p l) cut (firstPair p k)) ∙ crossing-append p l k ∙ whole)
+    ∙ ap keptOf (ap (λ (a : Crossing). orElse a (orElse cut (firstPair p k))) (same-level l k) ∙ sym (orElse-assoc (firstPair p l) cut (firstPair p k)) ∙ crossing-behind zeroReading p l k ∙ whole)
 
-bandwidth-append : (l : List Reading) (m : Bool) (k : List Reading) → orKept (bandwidthUnder m l)
-    (orElse (crossingAt (dropPair (levelIn (endsBehind (endsOf l) (endsOf k)))) (cutBetween (endsOf l) (endsOf k)))
-    (firstPair (dropPair (levelIn (endsBehind (endsOf l) (endsOf k)))) k)) ≡ bandwidthUnder m (l ++ k)
+bandwidth-append : (l : List Reading) (m : Bool) (k : List Reading)
+    → orKept (bandwidthUnder m l) (dropBehind (levelOf (l ++ k)) (summaryOf l m) k) ≡ bandwidthUnder m (l ++ k)
 unfolding bandwidthUnder
 bandwidth-append l true k = unfold orKept in refl
-bandwidth-append l false k = rw (level-behind l k) (kept-append l k)
+bandwidth-append l false k = kept-append l k false
 
 -- ---- the two laws
 
-pub fed-append : (l : List Reading) (m : Bool) (k : List Reading) → fedBy (summaryOf l m) k ≡ summaryOf (l ++ k) m
-unfolding fedBy summaryOf sensitivityCrossover
-fed-append l m k = rw (bandwidth-append l m k, ends-append l k, crossing-append equalPair l k)
-
 pub join-append : (l : List Reading) (m : Bool) (k : List Reading) (n : Bool) → joinOf (summaryOf l m) (summaryOf k n) ≡ summaryOf (l ++ k) true
 unfolding joinOf summaryOf sensitivityCrossover bandwidthUnder
-join-append l m k n = rw (ends-append l k, crossing-append equalPair l k)
+join-append l m k n =
+    λ i. record {
+      read = some-append l k i;
+      first = first-behind zeroReading l k i;
+      last = last-behind zeroReading l k i;
+      crossover = crossing-behind zeroReading equalPair l k i;
+      bandwidth = NotKept;
+    }
+
+-- what a feed takes over from a join is that of the whole list, and so is the level
+pub fed-append : (l : List Reading) (m : Bool) (k : List Reading) → fedBy (summaryOf l m) k ≡ summaryOf (l ++ k) m
+unfolding fedBy summaryOf levelOf
+fed-append l m k =
+    rw (join-append l m k false)
+    (λ i. record {
+      read = notEmpty (l ++ k);
+      first = getD (l ++ k) 0 zeroReading;
+      last = getD (l ++ k) (length (l ++ k) - 1) zeroReading;
+      crossover = sensitivityCrossover (l ++ k);
+      bandwidth = bandwidth-append l m k i;
+    })
 
 -- ---- the answers of a list's summary: the crossover is that of the list under either mark, the bandwidth only where the mark is not set
 

@@ -1,9 +1,10 @@
 -- The scans over a sweep of S and T in dB. Definitions only.
 use Prim.Native.Nat.{ℕ, _+_}
 use mathlib.Core.Bool.{Bool}
-use mathlib.Core.List.{List, [], _∷_}
+use mathlib.Core.List.{List}
 use lib.ListN.{getD}
 use lib.Ieee.{Float, nan, binary64, sub, neg, ofBits}
+use Rattle.scalar.specs.Scalar.{f0}
 use Rattle.sweep.specs.Scan.{firstPair, crossIf, crossesBy, between}
 use Rattle.sweep.specs.declared.Crossing.{Crossing}
 use Rattle.sweep.specs.declared.Sought.the-variants.{Zero, Drop}
@@ -37,10 +38,16 @@ sensitivityCrossover l = firstPair equalPair l
 abbrev pub f3 : Float
 f3 = ofBits binary64 0x4008_0000_0000_0000
 
--- a list without readings has no level
+-- what stands in the place of a reading that is not there
+abbrev pub zeroReading : Reading
+zeroReading = reading f0 f0 f0
+
+-- the level by the first reading, and of a list; a list without readings has no neighbours, so that its level does not matter
+abbrev pub levelBy : Reading → Float
+levelBy r = sub binary64 (r .t) f3
+
 unfoldable pub levelOf : List Reading → Float
-levelOf [] = nan
-levelOf (r ∷ l) = sub binary64 (r .t) f3
+levelOf l = levelBy (getD l 0 zeroReading)
 
 -- where T is at the level on the straight line from a to b
 unfoldable pub dropBetween : Float → Reading → Reading → Float
@@ -56,12 +63,8 @@ dropPair level a b = crossIf (drops level a b) (dropBetween level a b)
 unfoldable pub bandwidthOf : List Reading → Crossing
 bandwidthOf l = firstPair (dropPair (levelOf l)) l
 
--- ---- on lists of numbers: whether S - T crosses 0 between places k and k + 1, and the first T less 3
+-- ---- on lists of numbers: whether S - T crosses 0 between places k and k + 1
 
 abbrev pub equalAt : List Float → List Float → ℕ → Bool
 equalAt s t k =
     crossesBy Zero (sub binary64 (getD s k nan) (getD t k nan)) (sub binary64 (getD s (k + 1) nan) (getD t (k + 1) nan))
-
-abbrev pub levelAt : List Float → Float
-levelAt [] = nan
-levelAt (x ∷ l) = sub binary64 x f3

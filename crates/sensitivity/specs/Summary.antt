@@ -1,53 +1,22 @@
 -- The summary of a sweep of S and T, and what feeds and joins make of it. Definitions only.
-use Prim.Native.Nat.{ℕ}
-use mathlib.Core.Bool.{Bool, true, false, cond}
-use mathlib.Core.List.{List, [], _∷_}
-use lib.Ieee.{Float, nan, binary64, sub}
+use Prim.Native.Nat.{ℕ, _-_}
+use mathlib.Core.Bool.{Bool, true, false, _&&_, _||_, cond}
+use mathlib.Core.List.{List}
+use lib.ListN.{length, getD}
+use lib.Ieee.{Float}
 use Rattle.laws.specs.Outcome.{Outcome}
 use Rattle.sweep.specs.Answer.{crossingOutcome, notKept, keptOutcome, keptOf, orKept}
 use Rattle.sweep.specs.Refusal.{numberOf, listsRefusal}
 use Rattle.sweep.specs.Runs.{Calls, book, isTaken}
-use Rattle.sweep.specs.Scan.{orElse, firstPair, lastOf, zip3}
+use Rattle.sweep.specs.Scan.{orElse, firstPair, notEmpty, crossingAt, zip3}
 use Rattle.sweep.specs.declared.Crossing.{Crossing}
-use Rattle.sweep.specs.declared.Crossing.the-variants.{Missing}
 use Rattle.sweep.specs.declared.Kept.{Kept}
 use Rattle.sweep.specs.declared.Kept.the-variants.{NotKept}
-use Rattle.sensitivity.specs.Scans.{reading, f3, equalPair, dropPair, sensitivityCrossover, bandwidthOf}
+use Rattle.sensitivity.specs.Scans.{reading, zeroReading, equalPair, levelBy, dropPair, sensitivityCrossover, bandwidthOf}
 use Rattle.sensitivity.specs.declared.Reading.{Reading}
-use Rattle.sensitivity.specs.declared.summary.Ends.{Ends}
-use Rattle.sensitivity.specs.declared.summary.Ends.the-variants.{Nothing, Between}
 use Rattle.sensitivity.specs.declared.summary.SensitivitySummary.{SensitivitySummary}
 use Rattle.sensitivity.specs.declared.summary.SensitivityFed.{SensitivityFed}
 use Rattle.sensitivity.specs.declared.summary.SensitivityFed.the-variants.{Taken, Refused}
-
--- ---- the ends of a list, and where two lists meet
-
--- the first and the last reading of a list
-unfoldable pub endsOf : List Reading → Ends
-endsOf [] = Nothing
-endsOf (x ∷ l) = Between x (lastOf x l)
-
--- the ends of one list behind another
-unfoldable pub endsBehind : Ends → Ends → Ends
-endsBehind Nothing f = f
-endsBehind (Between a b) Nothing = Between a b
-endsBehind (Between a b) (Between c d) = Between a d
-
--- the last reading of the one and the first of the other, which are neighbours where the lists meet
-unfoldable pub cutBetween : Ends → Ends → Ends
-cutBetween Nothing f = Nothing
-cutBetween (Between a b) Nothing = Nothing
-cutBetween (Between a b) (Between c d) = Between b c
-
--- the crossing of these two, if there are any
-unfoldable pub crossingAt : (Reading → Reading → Crossing) → Ends → Crossing
-crossingAt p Nothing = Missing
-crossingAt p (Between a b) = p a b
-
--- the level of a list with these ends: the first T less 3
-unfoldable pub levelIn : Ends → Float
-levelIn Nothing = nan
-levelIn (Between a b) = sub binary64 (a .t) f3
 
 -- ---- the summary
 
@@ -56,30 +25,45 @@ unfoldable pub bandwidthUnder : Bool → List Reading → Kept
 bandwidthUnder true l = NotKept
 bandwidthUnder false l = keptOf (bandwidthOf l)
 
--- The summary of a list of readings. The mark says whether a join is among the calls.
+-- The summary of a list of readings: whether it has any, the first and the last of them, the first crossing and the bandwidth. The mark says whether a join is
+-- among the calls.
 unfoldable pub summaryOf : List Reading → Bool → SensitivitySummary
-summaryOf l m = record { ends = endsOf l; crossover = sensitivityCrossover l; bandwidth = bandwidthUnder m l }
-
--- A feed puts the part's readings behind s. The first crossing is that of s, else that of the two readings where they meet, else that of the part. So is the
--- bandwidth where it is kept; its level is that of the first reading of all.
-unfoldable pub fedBy : SensitivitySummary → List Reading → SensitivitySummary
-fedBy s l =
+summaryOf l m =
     record {
-      ends = endsBehind (s .ends) (endsOf l);
-      crossover = orElse (orElse (s .crossover) (crossingAt equalPair (cutBetween (s .ends) (endsOf l)))) (sensitivityCrossover l);
-      bandwidth =
-          orKept (s .bandwidth) (
-          orElse (crossingAt (dropPair (levelIn (endsBehind (s .ends) (endsOf l)))) (cutBetween (s .ends) (endsOf l)))
-          (firstPair (dropPair (levelIn (endsBehind (s .ends) (endsOf l)))) l));
+      read = notEmpty l;
+      first = getD l 0 zeroReading;
+      last = getD l (length l - 1) zeroReading;
+      crossover = sensitivityCrossover l;
+      bandwidth = bandwidthUnder m l;
     }
 
--- A join puts the readings of t behind those of s. The bandwidth is not kept.
+-- A join puts the readings of t behind those of s. The first crossing is that of s, else that of the two readings where they meet, else that of t. The bandwidth
+-- is not kept.
 unfoldable pub joinOf : SensitivitySummary → SensitivitySummary → SensitivitySummary
 joinOf s t =
     record {
-      ends = endsBehind (s .ends) (t .ends);
-      crossover = orElse (orElse (s .crossover) (crossingAt equalPair (cutBetween (s .ends) (t .ends)))) (t .crossover);
+      read = s .read || t .read;
+      first = cond (s .read) (s .first) (t .first);
+      last = cond (t .read) (t .last) (s .last);
+      crossover = orElse (orElse (s .crossover) (crossingAt equalPair (s .read && t .read) (s .last) (t .first))) (t .crossover);
       bandwidth = NotKept;
+    }
+
+-- the first drop below a level in readings l that come behind those of s: that of the two where they meet, else that of l
+unfoldable pub dropBehind : Float → SensitivitySummary → List Reading → Crossing
+dropBehind level s l = orElse (crossingAt (dropPair level) (s .read && notEmpty l) (s .last) (getD l 0 zeroReading)) (firstPair (dropPair level) l)
+
+-- A feed puts the part's readings behind s as a join does, but for the bandwidth: where none was found, the part may have it. Its level is that of the first
+-- reading of all.
+unfoldable pub fedBy : SensitivitySummary → List Reading → SensitivitySummary
+fedBy s l =
+    let t = joinOf s (summaryOf l false) in
+    record {
+      read = t .read;
+      first = t .first;
+      last = t .last;
+      crossover = t .crossover;
+      bandwidth = orKept (s .bandwidth) (dropBehind (levelBy (t .first)) s l);
     }
 
 -- ---- in the numbers of document 01

@@ -4,13 +4,13 @@ mod summary;
 
 ghost use mathlib.Core.Path.{_≡_};
 ghost use Prim.Native.Nat.{_-_, _<_};
-ghost use lib.ListN.{length};
+ghost use lib.ListN.{length, getD};
 ghost use Rattle.sweep.specs.Refusal.{SameLength};
 ghost use Rattle.sweep.specs.Answer as answer;
 ghost use Rattle.sweep.specs.Scan.{firstWhere, firstPair, at3, zip3, scannedBy};
 ghost use Rattle.transfer_fn.specs.Evaluation.{outcomeOf};
 ghost use Rattle.sensitivity.specs.Responses.{loopGain, onePlus, sensitivity, compSensitivity, controlSensitivity, responseBy};
-ghost use Rattle.sensitivity.specs.Scans.{reading, difference, equalBetween, sensitivityCrossover, equalAt, levelAt, dropBetween, dropPair, bandwidthOf};
+ghost use Rattle.sensitivity.specs.Scans.{reading, difference, equalBetween, sensitivityCrossover, equalAt, zeroReading, levelBy, dropBetween, dropPair, bandwidthOf};
 use complex::Complex;
 pub use summary::SensitivityFed;
 pub use summary::SensitivityPlain;
@@ -178,14 +178,33 @@ fn equal_crossing(omega: &[f64], s: &[f64], t: &[f64]) -> Crossing
     Crossing::Missing
 }
 
-// The list's first T less 3. There is none in an empty list.
-fn level_at(t: &[f64]) -> f64
-    ensures { λ r. ⌜ r ≡ levelAt (now (t .entry)) ⌝ }
+// What stands in the place of a reading that is not there.
+fn zero_reading() -> Reading
+    ensures { λ r. ⌜ r ≡ zeroReading ⌝ }
 {
-    if t.len() == 0 {
-        return 0.0 / 0.0;
+    Reading {
+        omega: 0.0,
+        s: 0.0,
+        t: 0.0,
     }
-    t[0] - 3.0
+}
+
+// Reading i, or zeros where there is none.
+fn reading_or_zero(omega: &[f64], s: &[f64], t: &[f64], i: usize) -> Reading
+    requires { ⌜ SameLength (now omega) (now s) (now t) ⌝ }
+    ensures { λ r. ⌜ r ≡ getD (zip3 reading (now (omega .entry)) (now (s .entry)) (now (t .entry))) i zeroReading ⌝ }
+{
+    if i < omega.len() {
+        return reading_at(omega, s, t, i);
+    }
+    zero_reading()
+}
+
+// The level of the bandwidth, by the first reading.
+fn level_by(first: Reading) -> f64
+    ensures { λ r. ⌜ r ≡ levelBy first ⌝ }
+{
+    first.t - 3.0
 }
 
 // The first drop of T below the level.
@@ -207,7 +226,8 @@ fn drop_crossing(omega: &[f64], s: &[f64], t: &[f64]) -> Crossing
     requires { ⌜ SameLength (now omega) (now s) (now t) ⌝ }
     ensures { λ r. ⌜ r ≡ bandwidthOf (zip3 reading (now (omega .entry)) (now (s .entry)) (now (t .entry))) ⌝ }
 {
-    drop_below(level_at(t), omega, s, t)
+    let first = reading_or_zero(omega, s, t, 0);
+    drop_below(level_by(first), omega, s, t)
 }
 
 // The frequency where |S| and |T| are first equal.

@@ -1,15 +1,15 @@
 // A summary of a sweep of S and T, made empty, fed in parts and joined. It answers what the scans answer on all its
 // readings; only the bandwidth, which hangs on the first reading, is not kept by a join.
 ghost use mathlib.Core.Path.{_≡_};
-ghost use mathlib.Core.Bool.{false};
+ghost use mathlib.Core.Bool.{false, cond};
 ghost use mathlib.Core.List.{[]};
 ghost use Rattle.sweep.specs.Refusal.{SameLength, listsRefusal};
 ghost use Rattle.sweep.specs.Answer.{crossingOutcome, keptOutcome, orKept};
-ghost use Rattle.sweep.specs.Scan.{orElse, firstPair, zip3};
+ghost use Rattle.sweep.specs.Scan.{orElse, firstPair, crossingAt, zip3};
 ghost use Rattle.sweep.specs.Runs.{leftAfter};
 ghost use Rattle.sensitivity.specs.Scans.{reading, equalPair, dropPair, sensitivityCrossover};
-ghost use Rattle.sensitivity.specs.Summary.{endsOf, endsBehind, cutBetween, crossingAt, levelIn, summaryOf, fedBy, joinOf, numberOfFed, leftBy, crossoverAnswer, bandwidthAnswer};
-ghost use Rattle.sensitivity.specs.Plain.{zeroReading, endsMark, firstEnd, lastEnd, markedEnds, plainOf, fromPlain};
+ghost use Rattle.sensitivity.specs.Summary.{summaryOf, fedBy, joinOf, numberOfFed, leftBy, crossoverAnswer, bandwidthAnswer};
+ghost use Rattle.sensitivity.specs.Plain.{plainOf, fromPlain};
 use super::Reading;
 use sweep::Check;
 use sweep::Crossing;
@@ -17,15 +17,11 @@ use sweep::FreqError;
 use sweep::Kept;
 use sweep::Sought;
 
-// Two readings of a sweep, or none: its first and its last one, or the two next to each other where it was cut.
-pub enum Ends {
-    Nothing,
-    Between(Reading, Reading),
-}
-
-// Where the readings begin and end, and the first crossing of S and T and the bandwidth among them.
+// Whether there are readings, the first and the last of them, the first crossing of S and T, and the bandwidth.
 pub struct SensitivitySummary {
-    ends: Ends,
+    read: bool,
+    first: Reading,
+    last: Reading,
     crossover: Crossing,
     bandwidth: Kept,
 }
@@ -49,54 +45,11 @@ pub enum SensitivityFed {
     Refused(FreqError),
 }
 
-// The first and the last of a part's readings.
-fn ends_of(omega: &[f64], s: &[f64], t: &[f64]) -> Ends
-    requires { ⌜ SameLength (now omega) (now s) (now t) ⌝ }
-    ensures { λ r. ⌜ r ≡ endsOf (zip3 reading (now (omega .entry)) (now (s .entry)) (now (t .entry))) ⌝ }
+// The one reading or the other.
+fn either(test: bool, a: Reading, b: Reading) -> Reading
+    ensures { λ r. ⌜ r ≡ cond test a b ⌝ }
 {
-    let n = omega.len();
-    if n == 0 {
-        return Ends::Nothing;
-    }
-    let first = super::reading_at(omega, s, t, 0);
-    let last = super::reading_at(omega, s, t, n - 1);
-    Ends::Between(first, last)
-}
-
-// The ends of two sweeps, one behind the other.
-fn ends_behind(earlier: Ends, later: Ends) -> Ends
-    ensures { λ r. ⌜ r ≡ endsBehind earlier later ⌝ }
-{
-    match earlier {
-        Ends::Nothing => later,
-        Ends::Between(first, _) => match later {
-            Ends::Nothing => earlier,
-            Ends::Between(_, last) => Ends::Between(first, last),
-        },
-    }
-}
-
-// The two readings next to each other where one sweep goes over into another.
-fn cut_between(earlier: Ends, later: Ends) -> Ends
-    ensures { λ r. ⌜ r ≡ cutBetween earlier later ⌝ }
-{
-    match earlier {
-        Ends::Nothing => Ends::Nothing,
-        Ends::Between(_, last) => match later {
-            Ends::Nothing => Ends::Nothing,
-            Ends::Between(first, _) => Ends::Between(last, first),
-        },
-    }
-}
-
-// The level of the bandwidth: the first T less 3.
-fn level_in(ends: Ends) -> f64
-    ensures { λ r. ⌜ r ≡ levelIn ends ⌝ }
-{
-    match ends {
-        Ends::Nothing => 0.0 / 0.0,
-        Ends::Between(first, _) => first.t - 3.0,
-    }
+    if test { a } else { b }
 }
 
 // The crossing of S and T between two neighbours.
@@ -123,22 +76,23 @@ fn drop_pair(level: f64, a: Reading, b: Reading) -> Crossing
     Crossing::Missing
 }
 
-fn equal_at(cut: Ends) -> Crossing
-    ensures { λ r. ⌜ r ≡ crossingAt equalPair cut ⌝ }
+// The crossing where one sweep goes over into another: a is the last reading of the one and b the first of the other.
+fn equal_at(both: bool, a: Reading, b: Reading) -> Crossing
+    ensures { λ r. ⌜ r ≡ crossingAt equalPair both a b ⌝ }
 {
-    match cut {
-        Ends::Nothing => Crossing::Missing,
-        Ends::Between(a, b) => equal_pair(a, b),
+    if both {
+        return equal_pair(a, b);
     }
+    Crossing::Missing
 }
 
-fn drop_at(level: f64, cut: Ends) -> Crossing
-    ensures { λ r. ⌜ r ≡ crossingAt (dropPair level) cut ⌝ }
+fn drop_at(level: f64, both: bool, a: Reading, b: Reading) -> Crossing
+    ensures { λ r. ⌜ r ≡ crossingAt (dropPair level) both a b ⌝ }
 {
-    match cut {
-        Ends::Nothing => Crossing::Missing,
-        Ends::Between(a, b) => drop_pair(level, a, b),
+    if both {
+        return drop_pair(level, a, b);
     }
+    Crossing::Missing
 }
 
 // What was found already, else the part's own first crossing of S and T. The part is scanned only where it decides.
@@ -163,64 +117,23 @@ fn drop_from(found: Crossing, level: f64, omega: &[f64], s: &[f64], t: &[f64]) -
     }
 }
 
-// The bandwidth that was kept, or where it was absent the first drop at the cut or in the part.
-fn bandwidth_from(kept: Kept, level: f64, cut: Ends, omega: &[f64], s: &[f64], t: &[f64]) -> Kept
+// The bandwidth that was kept, or where it was absent the drop found where the part begins, or else in it.
+fn bandwidth_from(
+    kept: Kept,
+    found: Crossing,
+    level: f64,
+    omega: &[f64],
+    s: &[f64],
+    t: &[f64],
+) -> Kept
     requires { ⌜ SameLength (now omega) (now s) (now t) ⌝ }
-    ensures { λ r. ⌜ r ≡ orKept kept (orElse (crossingAt (dropPair level) cut) (firstPair (dropPair level) (zip3 reading (now (omega .entry)) (now (s .entry)) (now (t .entry))))) ⌝ }
+    ensures { λ r. ⌜ r ≡ orKept kept (orElse found (firstPair (dropPair level) (zip3 reading (now (omega .entry)) (now (s .entry)) (now (t .entry))))) ⌝ }
 {
     match kept {
         Kept::Found(_) => kept,
         Kept::NotKept => kept,
-        Kept::Absent => sweep::kept_of(drop_from(drop_at(level, cut), level, omega, s, t)),
+        Kept::Absent => sweep::kept_of(drop_from(found, level, omega, s, t)),
     }
-}
-
-fn zero_reading() -> Reading
-    ensures { λ r. ⌜ r ≡ zeroReading ⌝ }
-{
-    Reading {
-        omega: 0.0,
-        s: 0.0,
-        t: 0.0,
-    }
-}
-
-// The ends as plain numbers: a mark, and the two readings.
-fn ends_mark(ends: Ends) -> u32
-    ensures { λ r. ⌜ r ≡ endsMark ends ⌝ }
-{
-    match ends {
-        Ends::Nothing => 0,
-        Ends::Between(_, _) => 1,
-    }
-}
-
-fn first_end(ends: Ends) -> Reading
-    ensures { λ r. ⌜ r ≡ firstEnd ends ⌝ }
-{
-    match ends {
-        Ends::Nothing => zero_reading(),
-        Ends::Between(first, _) => first,
-    }
-}
-
-fn last_end(ends: Ends) -> Reading
-    ensures { λ r. ⌜ r ≡ lastEnd ends ⌝ }
-{
-    match ends {
-        Ends::Nothing => zero_reading(),
-        Ends::Between(_, last) => last,
-    }
-}
-
-// The ends of such numbers. Any mark but 0 is read as 1.
-fn marked_ends(mark: u32, first: Reading, last: Reading) -> Ends
-    ensures { λ r. ⌜ r ≡ markedEnds mark first last ⌝ }
-{
-    if mark == 0 {
-        return Ends::Nothing;
-    }
-    Ends::Between(first, last)
 }
 
 impl SensitivitySummary {
@@ -229,7 +142,9 @@ impl SensitivitySummary {
         ensures { λ r. ⌜ r ≡ summaryOf [] false ⌝ }
     {
         SensitivitySummary {
-            ends: Ends::Nothing,
+            read: false,
+            first: super::zero_reading(),
+            last: super::zero_reading(),
             crossover: Crossing::Missing,
             bandwidth: Kept::Absent,
         }
@@ -240,16 +155,23 @@ impl SensitivitySummary {
         requires { ⌜ SameLength (now omega) (now s) (now t) ⌝ }
         ensures { λ r. ⌜ r ≡ fedBy self (zip3 reading (now (omega .entry)) (now (s .entry)) (now (t .entry))) ⌝ }
     {
-        let earlier = self.ends;
         let kept_crossover = self.crossover;
         let kept_bandwidth = self.bandwidth;
-        let later = ends_of(omega, s, t);
-        let cut = cut_between(earlier, later);
-        let ends = ends_behind(earlier, later);
+        let own_last = self.last;
+        let read = omega.len() != 0;
+        let both = self.read & read;
+        let part_first = super::reading_or_zero(omega, s, t, 0);
+        let part_last = super::reading_or_zero(omega, s, t, sweep::last_place(omega.len()));
+        let first = either(self.read, self.first, part_first);
+        let level = super::level_by(first);
+        let crossing = sweep::or_else(kept_crossover, equal_at(both, own_last, part_first));
+        let drop = drop_at(level, both, own_last, part_first);
         SensitivitySummary {
-            ends,
-            crossover: equal_from(sweep::or_else(kept_crossover, equal_at(cut)), omega, s, t),
-            bandwidth: bandwidth_from(kept_bandwidth, level_in(ends), cut, omega, s, t),
+            read: self.read | read,
+            first,
+            last: either(read, part_last, own_last),
+            crossover: equal_from(crossing, omega, s, t),
+            bandwidth: bandwidth_from(kept_bandwidth, drop, level, omega, s, t),
         }
     }
 
@@ -269,14 +191,19 @@ impl SensitivitySummary {
     pub fn join(self, other: SensitivitySummary) -> SensitivitySummary
         ensures { λ r. ⌜ r ≡ joinOf self other ⌝ }
     {
-        let earlier = self.ends;
-        let later = other.ends;
         let own = self.crossover;
         let others = other.crossover;
-        let cut = cut_between(earlier, later);
+        let own_last = self.last;
+        let other_first = other.first;
+        let both = self.read & other.read;
         SensitivitySummary {
-            ends: ends_behind(earlier, later),
-            crossover: sweep::or_else(sweep::or_else(own, equal_at(cut)), others),
+            read: self.read | other.read,
+            first: either(self.read, self.first, other_first),
+            last: either(other.read, other.last, own_last),
+            crossover: sweep::or_else(
+                sweep::or_else(own, equal_at(both, own_last, other_first)),
+                others,
+            ),
             bandwidth: Kept::NotKept,
         }
     }
@@ -299,15 +226,16 @@ impl SensitivitySummary {
     pub fn to_plain(self) -> SensitivityPlain
         ensures { λ r. ⌜ r ≡ plainOf self ⌝ }
     {
-        let ends = self.ends;
+        let first = self.first;
+        let last = self.last;
         let crossover = self.crossover;
         let bandwidth = self.bandwidth;
         SensitivityPlain {
-            read: ends_mark(ends),
+            read: sweep::read_mark(self.read),
             crossover_found: sweep::crossing_mark(crossover),
             bandwidth_state: sweep::kept_mark(bandwidth),
-            first: first_end(ends),
-            last: last_end(ends),
+            first,
+            last,
             crossover: sweep::crossing_value(crossover),
             bandwidth: sweep::kept_value(bandwidth),
         }
@@ -317,8 +245,12 @@ impl SensitivitySummary {
     pub fn from_plain(plain: SensitivityPlain) -> SensitivitySummary
         ensures { λ r. ⌜ r ≡ fromPlain plain ⌝ }
     {
+        let first = plain.first;
+        let last = plain.last;
         SensitivitySummary {
-            ends: marked_ends(plain.read, plain.first, plain.last),
+            read: plain.read != 0,
+            first,
+            last,
             crossover: sweep::marked_crossing(plain.crossover_found, plain.crossover),
             bandwidth: sweep::marked_kept(plain.bandwidth_state, plain.bandwidth),
         }

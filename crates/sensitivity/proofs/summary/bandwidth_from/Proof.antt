@@ -13,7 +13,7 @@ returns-2 c = simp (c .enum-told2 .given .1)
 
 returns-3 : tie.Need-returns-3
 unfolding orKept
-returns-3 c = simp (c .before .before .before .enum-told3 .given .1, c .kept-of .ensures, c .before .drop-from .ensures, c .before .before .drop-at .ensures)
+returns-3 c = simp (c .before .before .enum-told3 .given .1, c .kept-of .ensures, c .before .drop-from .ensures)
 
 pub bandwidth-from-spec : {M : Type 1} → statement M
 bandwidth-from-spec =
@@ -22,7 +22,6 @@ bandwidth-from-spec =
     (λ c. search needs)
     (λ c. search needs)
     (λ c. search needs)
-    (λ c κs. search needs)
     (λ c κs. search needs)
     (λ c κs. search needs)
     returns

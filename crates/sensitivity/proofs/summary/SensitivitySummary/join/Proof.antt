@@ -6,17 +6,14 @@ use Rattle.sensitivity.proofs.summary.SensitivitySummary.join.Tie as ti
 returns : tie.Need-returns
 unfolding joinOf
 returns c =
-    let ends = c .before .before .before in
-    simp
-    (c .or-else2 .ensures, c .before .or-else .ensures, c .before .before .equal-at .ensures, ends .ends-behind .ensures, ends .before .cut-between .ensures)
+    let last = c .before .before .before in
+    simp (
+      c .or-else2 .ensures,
+      c .before .or-else .ensures,
+      c .before .before .equal-at .ensures,
+      last .either2 .ensures,
+      last .before .either .ensures,
+    )
 
 pub join-spec : {M : Type 1} → statement M
-join-spec =
-    tie.close
-    (tie.spec
-    (λ c κs. search needs)
-    (λ c κs. search needs)
-    (λ c κs. search needs)
-    (λ c κs. search needs)
-    (λ c κs. search needs)
-    returns)
+join-spec = tie.close (tie.spec (λ c κs. search needs) (λ c κs. search needs) (λ c κs. search needs) (λ c κs. search needs) (λ c κs. search needs) returns)
