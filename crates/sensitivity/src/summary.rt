@@ -196,14 +196,12 @@ impl SensitivitySummary {
         let own_last = self.last;
         let other_first = other.first;
         let both = self.read & other.read;
+        let cut = equal_at(both, own_last, other_first);
         SensitivitySummary {
             read: self.read | other.read,
             first: either(self.read, self.first, other_first),
             last: either(other.read, other.last, own_last),
-            crossover: sweep::or_else(
-                sweep::or_else(own, equal_at(both, own_last, other_first)),
-                others,
-            ),
+            crossover: sweep::or_else(sweep::or_else(own, cut), others),
             bandwidth: Kept::NotKept,
         }
     }

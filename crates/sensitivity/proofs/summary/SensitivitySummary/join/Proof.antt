@@ -6,14 +6,8 @@ use Rattle.sensitivity.proofs.summary.SensitivitySummary.join.Tie as ti
 returns : tie.Need-returns
 unfolding joinOf
 returns c =
-    let last = c .before .before .before in
-    simp (
-      c .or-else2 .ensures,
-      c .before .or-else .ensures,
-      c .before .before .equal-at .ensures,
-      last .either2 .ensures,
-      last .before .either .ensures,
-    )
+    let ends = c .before .before in
+    simp (c .or-else2 .ensures, c .before .or-else .ensures, ends .either2 .ensures, ends .before .either .ensures, ends .before .before .before .before .equal-at .ensures)
 
 pub join-spec : {M : Type 1} → statement M
 join-spec = tie.close (tie.spec (λ c κs. search needs) (λ c κs. search needs) (λ c κs. search needs) (λ c κs. search needs) (λ c κs. search needs) returns)
