@@ -118,7 +118,36 @@ same-outcome o p h =
 
 -- ---- a row
 unfoldable pub right : Row → Bool
-unfolding sameOutcome outcome ieee.round ieee.neg ieee.add ieee.sub ieee.mul ieee.div ieee.lt ieee.le ieee.ofInt ieee.ofBits loops.countUp loops.upTo loops.filled choice.lesser choice.greater outcomes.answered scalar.absOf square-root.sqrtOf complex.newOf complex.fromReal complex.product complex.difference complex.magnitudeSq complex.magnitudeOf complex.small complex.inverse complex.ratio complex.reciprocalOf complex.quotient complex.quotientOrZero refusals.scanRefusal refusals.listsRefusal refusals.gridRefusal answers.crossingOutcome answers.keptOutcome answers.keptOf answers.orKept answers.scanned answers.gridded scans.between scans.scannedBy runs.leftAfter evaluation.sumUp evaluation.termOf evaluation.pairSum evaluation.numerator evaluation.denominator evaluation.valueAt evaluation.evaluationRefusal evaluation.evaluation responses.responseBy sensitivity.difference sensitivity.equalBetween sensitivity.equalPair sensitivity.sensitivityCrossover sensitivity.levelOf sensitivity.dropBetween sensitivity.dropPair sensitivity.bandwidthOf sensitivity-summary.endsOf sensitivity-summary.endsBehind sensitivity-summary.cutBetween sensitivity-summary.crossingAt sensitivity-summary.levelIn sensitivity-summary.bandwidthUnder sensitivity-summary.summaryOf sensitivity-summary.fedBy sensitivity-summary.joinOf sensitivity-summary.crossoverAnswer sensitivity-summary.bandwidthAnswer sensitivity-summary.partReadings bode.gainBetween bode.phaseBetween bode.gainPair bode.phasePair bode.gainCrossover bode.phaseCrossover bode.partOfWay bode.valueAt bode.gainMarginBetween bode.phaseMarginBetween bode.gainMarginPair bode.phaseMarginPair bode.marginAt bode.gainMargin bode.phaseMargin bode-summary.endsOf bode-summary.endsBehind bode-summary.cutBetween bode-summary.crossingAt bode-summary.summaryOf bode-summary.behind bode-summary.fedBy bode-summary.joinOf bode-summary.gainAnswer bode-summary.phaseAnswer bode-summary.partReadings curve.points curve.fromCritical curve.pointDistance curve.leastDistance curve.orZero curve.distanceOf curve.distanceOutcome curve.pointSquare frequency.frequencyAt frequency.frequencyOutcome frequency.frequencyGrid curve-summary.keyOf curve-summary.nearestOf curve-summary.summaryOf curve-summary.behind curve-summary.fedBy curve-summary.joinOf curve-summary.approachAnswer curve.curveRefusal curve-summary.partPoints gain.gainAt gain.gainOutcome gain.gainGrid polynomial.coefficient polynomial.loopPolynomial polynomial.counting starting.startTable starting.asComplex starting.firstPoint starting.startingPoint starting.startingPoints search.horner search.evalPoly search.factor search.differences search.moved search.moveRoot search.oneRound search.rounds roots.linear roots.discriminant roots.realPair roots.complexPair roots.quadratic roots.quotientAt roots.monic roots.searched roots.byDegree roots.padded stability.outside stability.noneOutside stability.stable locus.locusRefusal locus.foundPoint locus.noPoint locus.pointAt locus.locusPointAt
+unfolding sameOutcome outcome
+    ieee.round ieee.neg ieee.add ieee.sub ieee.mul ieee.div ieee.lt ieee.le ieee.ofInt ieee.ofBits
+    loops.countUp loops.upTo loops.filled
+    choice.lesser choice.greater
+    outcomes.answered
+    scalar.absOf
+    square-root.sqrtOf
+    complex.newOf complex.fromReal complex.product complex.difference complex.magnitudeSq complex.magnitudeOf complex.small complex.inverse complex.ratio complex.reciprocalOf complex.quotient complex.quotientOrZero
+    refusals.scanRefusal refusals.listsRefusal refusals.gridRefusal
+    answers.crossingOutcome answers.keptOutcome answers.keptOf answers.orKept answers.scanned answers.gridded
+    scans.between scans.scannedBy
+    runs.leftAfter
+    evaluation.sumUp evaluation.termOf evaluation.pairSum evaluation.numerator evaluation.denominator evaluation.valueAt evaluation.evaluationRefusal evaluation.evaluation
+    responses.responseBy
+    sensitivity.difference sensitivity.equalBetween sensitivity.equalPair sensitivity.sensitivityCrossover sensitivity.levelOf sensitivity.dropBetween sensitivity.dropPair sensitivity.bandwidthOf
+    sensitivity-summary.bandwidthUnder sensitivity-summary.summaryOf sensitivity-summary.dropBehind sensitivity-summary.fedBy sensitivity-summary.joinOf sensitivity-summary.crossoverAnswer sensitivity-summary.bandwidthAnswer sensitivity-summary.partReadings
+    bode.gainBetween bode.phaseBetween bode.gainPair bode.phasePair bode.gainCrossover bode.phaseCrossover bode.partOfWay bode.valueAt bode.gainMarginBetween bode.phaseMarginBetween bode.gainMarginPair bode.phaseMarginPair bode.marginAt bode.gainMargin bode.phaseMargin
+    bode-summary.summaryOf bode-summary.behind bode-summary.fedBy bode-summary.joinOf bode-summary.gainAnswer bode-summary.phaseAnswer bode-summary.partReadings
+    curve.points curve.fromCritical curve.pointDistance curve.leastDistance curve.orZero curve.distanceOf curve.distanceOutcome curve.pointSquare
+    frequency.frequencyAt frequency.frequencyOutcome frequency.frequencyGrid
+    curve-summary.keyOf curve-summary.nearestOf curve-summary.summaryOf curve-summary.behind curve-summary.fedBy curve-summary.joinOf curve-summary.approachAnswer
+    curve.curveRefusal
+    curve-summary.partPoints
+    gain.gainAt gain.gainOutcome gain.gainGrid
+    polynomial.coefficient polynomial.loopPolynomial polynomial.counting
+    starting.startTable starting.asComplex starting.firstPoint starting.startingPoint starting.startingPoints
+    search.horner search.evalPoly search.factor search.differences search.moved search.moveRoot search.oneRound search.rounds
+    roots.linear roots.discriminant roots.realPair roots.complexPair roots.quadratic roots.quotientAt roots.monic roots.searched roots.byDegree roots.padded
+    stability.outside stability.noneOutside stability.stable
+    locus.locusRefusal locus.foundPoint locus.noPoint locus.pointAt locus.locusPointAt
 right (c gives o) = sameOutcome (outcome c) o
 
 pub right-means : (r : Row) → T (right r) → Right r
