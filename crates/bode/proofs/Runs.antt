@@ -6,77 +6,50 @@
 -- generated `Learnt` of `empty`, `feed` and `join` is what a caller learns of a call, whatever it returned.
 -- The claim is `demand-3`: whatever summary the calls leave, and whatever the two answers then return, `Claim c s` holds. `run-reached` says that every
 -- list of calls leaves a summary. Assumes nothing.
-use Prim.Native.Nat.{ℕ}
 use mathlib.Core.Path.{_≡_, refl, sym, _∙_, ap}
-use mathlib.Core.Bool.{Bool, false}
-use mathlib.Core.List.{List, []}
-use contract.Lifetimes.{Lfts}
-use denote.Ref.{now}
-use denote.Triple.Clauses.{AtExit}
-use borrow.Fn.Kinds.{Dens, endedOf}
+use mathlib.Core.Bool.{false}
+use mathlib.Core.List.{[], _∷_}
 use Rattle.laws.specs.Outcome.{none}
 use Rattle.sweep.specs.Answer.{crossingOutcome}
-use Rattle.sweep.specs.Refusal.{refusalOf}
-use Rattle.sweep.specs.Runs.{Calls, start, feed, join, mark, Reached, made, fed, joined, leftAfter}
+use Rattle.sweep.specs.Runs.{Calls, mark, Reached, leftAfter, runOf, Returned, FedLists}
 use Rattle.sweep.specs.Scan.{Neighbours}
-use Rattle.sweep.specs.declared.Check.{Check}
-use Rattle.sweep.specs.declared.Check.the-variants as check
 use Rattle.sweep.specs.declared.Crossing.{Crossing}
 use Rattle.sweep.proofs.Conditions.{lists-checked}
-use Rattle.sweep.proofs.Runs.{whole, lent, feed-refused, feed-taken}
+use Rattle.sweep.proofs.Runs.{whole, result-says, fed-lists, ran}
 use Rattle.bode.specs.Bode.{gainCrosses, phaseCrosses, gainCrossover, phaseCrossover}
 use Rattle.bode.specs.Summary.{summaryOf, fedBy, joinOf, numberOfFed, leftBy, gainAnswer, phaseAnswer, Part, partRefusal, partReadings, bookOf}
 use Rattle.bode.specs.declared.Reading.{Reading}
 use Rattle.bode.specs.declared.summary.BodeSummary.{BodeSummary}
-use Rattle.bode.specs.declared.summary.BodeFed.{BodeFed}
 use Rattle.bode.specs.declared.summary.BodeFed.the-variants.{Taken, Refused}
 use Rattle.bode.proofs.Laws.{no-gain-in, none-of-gain, no-phase-in, none-of-phase}
 use Rattle.bode.proofs.Joins.{fed-append, join-append, gain-answer, phase-answer}
 use Rattle.bode.proofs.summary.BodeSummary.empty.Reads as empty-reads
-use Rattle.bode.proofs.summary.BodeSummary.empty.Kinds as empty-kinds
 use Rattle.bode.proofs.summary.BodeSummary.feed.Reads as feed-reads
-use Rattle.bode.proofs.summary.BodeSummary.feed.Kinds as feed-kinds
 use Rattle.bode.proofs.summary.BodeSummary.join.Reads as join-reads
-use Rattle.bode.proofs.summary.BodeSummary.join.Kinds as join-kinds
 use Rattle.bode.proofs.summary.BodeSummary.gain_crossover.Reads as gain-reads
-use Rattle.bode.proofs.summary.BodeSummary.gain_crossover.Kinds as gain-kinds
 use Rattle.bode.proofs.summary.BodeSummary.phase_crossover.Reads as phase-reads
-use Rattle.bode.proofs.summary.BodeSummary.phase_crossover.Kinds as phase-kinds
 
 -- ---- the calls, by their contracts
 
 -- s is what a call of `empty` returned
-pub record Made (s : BodeSummary) : Type 0 where
-  pub exits : AtExit (endedOf 0 empty-kinds.ps empty-kinds.r) tt
-  pub learnt : empty-reads.Learnt tt tt s exits
+abbrev pub Made : BodeSummary → Type 0
+Made s = Returned empty-reads.Learnt tt s
 
 -- t is the summary that the caller has after a call of `feed` on s with slices that hold the part's three lists
-pub record FedBy (s : BodeSummary) (p : Part) (t : BodeSummary) : Type 0 where
-  pub κs : Lfts 3
-  pub args : Dens κs feed-kinds.ps
-  pub exits : AtExit (endedOf 3 feed-kinds.ps feed-kinds.r) κs
-  pub result : BodeFed
-  pub self-is : args .0 ≡ s
-  pub omega-is : now (args .1 .0) ≡ p .omega
-  pub db-is : now (args .1 .1 .0) ≡ p .db
-  pub phase-is : now (args .1 .1 .1 .0) ≡ p .phase
-  pub learnt : feed-reads.Learnt κs args result exits
-  pub after : t ≡ leftBy result s
+abbrev pub FedBy : BodeSummary → Part → BodeSummary → Type 0
+FedBy s p t = FedLists (p .omega ∷ p .db ∷ p .phase ∷ []) feed-reads.Learnt (λ r. leftBy r s) s t
 
 -- u is what a call of `join` on s and t returned
-pub record JoinedBy (s t u : BodeSummary) : Type 0 where
-  pub exits : AtExit (endedOf 0 join-kinds.ps join-kinds.r) tt
-  pub learnt : join-reads.Learnt tt (s, (t, tt)) u exits
+abbrev pub JoinedBy : BodeSummary → BodeSummary → BodeSummary → Type 0
+JoinedBy s t u = Returned join-reads.Learnt (s, (t, tt)) u
 
 -- r is what a call of `gain_crossover` on s returned
-pub record GainOf (s : BodeSummary) (r : Crossing) : Type 0 where
-  pub exits : AtExit (endedOf 0 gain-kinds.ps gain-kinds.r) tt
-  pub learnt : gain-reads.Learnt tt (s, tt) r exits
+abbrev pub GainOf : BodeSummary → Crossing → Type 0
+GainOf s r = Returned gain-reads.Learnt (s, tt) r
 
 -- r is what a call of `phase_crossover` on s returned
-pub record PhaseOf (s : BodeSummary) (r : Crossing) : Type 0 where
-  pub exits : AtExit (endedOf 0 phase-kinds.ps phase-kinds.r) tt
-  pub learnt : phase-reads.Learnt tt (s, tt) r exits
+abbrev pub PhaseOf : BodeSummary → Crossing → Type 0
+PhaseOf s r = Returned phase-reads.Learnt (s, tt) r
 
 -- s is a summary that the list of calls may leave
 abbrev pub Reaches : Calls Part → BodeSummary → Type 0
@@ -96,20 +69,11 @@ pub record Claim (c : Calls Part) (s : BodeSummary) : Type 0 where
 
 -- ---- the proof: whatever the calls leave is the summary of the book
 
-made-says : (s : BodeSummary) → Made s → s ≡ summaryOf [] false
-made-says s h = h .learnt
-
-fed-says : (l : List Reading) (m : Bool) (p : Part) (t : BodeSummary) → FedBy (summaryOf l m) p t
-    → t ≡ leftAfter (partRefusal l m p) (summaryOf l m) (fedBy (summaryOf l m) (partReadings p))
-unfolding partRefusal partReadings
-fed-says l m p t h = h .after ∙ (rw (h .self-is, h .omega-is, h .db-is, h .phase-is) at (h .learnt .1))
-
-joined-says : (s t u : BodeSummary) → JoinedBy s t u → u ≡ joinOf s t
-joined-says s t u h = h .learnt
-
 pub summary-of-book : {c : Calls Part} {s : BodeSummary} → Reaches c s → s ≡ summaryOf (bookOf c) (mark c)
-unfolding bookOf
-summary-of-book r = whole summaryOf fedBy joinOf fed-append join-append partRefusal partReadings made-says fed-says joined-says r
+unfolding bookOf partRefusal partReadings
+summary-of-book r =
+    whole summaryOf fedBy joinOf fed-append join-append partRefusal partReadings
+    (λ s h. h .learnt) (λ l m p t h. h .after ∙ h .call .learnt .1) (λ s t u h. h .learnt) r
 
 pub demand-3 : (c : Calls Part) (s : BodeSummary) → Reaches c s → Claim c s
 demand-3 c s h =
@@ -130,51 +94,30 @@ demand-3 c s h =
 
 -- ---- the claim is of something: every list of calls leaves a summary
 
--- what a feed returns whose conditions say k, t being the fed summary
-resultOf : Check → BodeSummary → BodeFed
-resultOf check.Passed t = Taken t
-resultOf (check.Refused e) t = Refused e
+-- the summary that the definitions leave after a feed
+next : BodeSummary → Part → BodeSummary
+next s p = leftAfter (partRefusal [] false p) s (fedBy s (partReadings p))
 
-result-says : (k : Check) {n : ℕ} (given : refusalOf k ≡ n) (s t : BodeSummary) → (numberOfFed (resultOf k t) ≡ n) × (leftBy (resultOf k t) s ≡ leftAfter n s t)
-unfolding resultOf numberOfFed leftBy
-result-says check.Passed given s t = feed-taken given s t refl refl
-result-says (check.Refused e) given s t = feed-refused given s t {e = e} refl
+feed-possible : (s : BodeSummary) (p : Part) → FedBy s p (next s p)
+unfolding next partRefusal partReadings numberOfFed leftBy
+feed-possible s p =
+    let r = result-says Taken Refused numberOfFed leftBy (λ t. refl) (λ e. refl) (λ s t. refl) (λ s e. refl) (lists-checked (p .omega) (p .db) (p .phase)) s (fedBy s (partReadings p)) in
+    fed-lists ([], ([], ([], tt))) (r .0) (λ a. r .1) (sym (r .1 .1))
 
--- the summary that the definitions give
+-- the summary that the definitions leave after the calls
 pub run : Calls Part → BodeSummary
-run start = summaryOf [] false
-run (feed c p) = leftAfter (partRefusal (bookOf c) (mark c) p) (run c) (fedBy (run c) (partReadings p))
-run (join c d) = joinOf (run c) (run d)
+run c = runOf (summaryOf [] false) next joinOf c
 
 pub run-reached : (c : Calls Part) → Reaches c (run c)
-unfolding run partRefusal partReadings
-run-reached start = made (record { exits = tt; learnt = refl })
-run-reached (feed c p) =
-    let s = run c in
-    let t = fedBy s (partReadings p) in
-    let a = lent (p .omega) in
-    let b = lent (p .db) in
-    let d = lent (p .phase) in
-    let k = lists-checked (p .omega) (p .db) (p .phase) in
-    let said = result-says (k .0) (k .1) s t in
-    fed (run-reached c) (record {
-      κs = ([], ([], ([], tt)));
-      args = (s, (a, (b, (d, tt))));
-      exits = (s, (a, (b, (d, tt))));
-      result = resultOf (k .0) t;
-      self-is = refl;
-      omega-is = refl;
-      db-is = refl;
-      phase-is = refl;
-      learnt = said;
-      after = sym (said .1);
-    })
-run-reached (join c d) = joined (run-reached c) (run-reached d) (record { exits = (run c, (run d, tt)); learnt = refl })
+unfolding run
+run-reached c =
+    ran (summaryOf [] false) next joinOf
+    (record { lifetimes = tt; exits = tt; learnt = refl }) feed-possible (λ s t. record { lifetimes = tt; exits = (s, (t, tt)); learnt = refl }) c
 
 -- ---- two lists of calls with the same book answer the same, however the sweep was cut, fed and joined
 
 pub same-gain : (c d : Calls Part) → bookOf c ≡ bookOf d → (s t : BodeSummary) → Reaches c s → Reaches d t → (r q : Crossing) → GainOf s r → GainOf t q → crossingOutcome r ≡ crossingOutcome q
-same-gain c d e s t h k r q g f = demand-3 c s h .gain r g ∙ ap (λ (l : List Reading). crossingOutcome (gainCrossover l)) e ∙ sym (demand-3 d t k .gain q f)
+same-gain c d e s t h k r q g f = cc (demand-3 c s h .gain r g, demand-3 d t k .gain q f)
 
 pub same-phase : (c d : Calls Part) → bookOf c ≡ bookOf d → (s t : BodeSummary) → Reaches c s → Reaches d t → (r q : Crossing) → PhaseOf s r → PhaseOf t q → crossingOutcome r ≡ crossingOutcome q
-same-phase c d e s t h k r q g f = demand-3 c s h .phase r g ∙ ap (λ (l : List Reading). crossingOutcome (phaseCrossover l)) e ∙ sym (demand-3 d t k .phase q f)
+same-phase c d e s t h k r q g f = cc (demand-3 c s h .phase r g, demand-3 d t k .phase q f)

@@ -84,9 +84,11 @@ run c = runOf (summaryOf [] false) next joinOf c
 
 pub run-reached : (c : Calls Part) → Reaches c (run c)
 unfolding run
-run-reached c = ran (summaryOf [] false) next joinOf (record { lifetimes = tt; exits = tt; learnt = refl }) feed-possible (λ s t. record { lifetimes = tt; exits = (s, (t, tt)); learnt = refl }) c
+run-reached c =
+    ran (summaryOf [] false) next joinOf
+    (record { lifetimes = tt; exits = tt; learnt = refl }) feed-possible (λ s t. record { lifetimes = tt; exits = (s, (t, tt)); learnt = refl }) c
 
 -- ---- two lists of calls with the same book answer the same, however the curve was cut, fed and joined
 
 pub same-approach : (c d : Calls Part) → bookOf c ≡ bookOf d → (s t : CurveSummary) → Reaches c s → Reaches d t → (r q : Float) → ApproachOf s r → ApproachOf t q → r ≡ q
-same-approach c d e s t h k r q g f = demand-3 c s h .approach r g ∙ ap distanceOf e ∙ sym (demand-3 d t k .approach q f)
+same-approach c d e s t h k r q g f = cc (demand-3 c s h .approach r g, demand-3 d t k .approach q f)

@@ -6,81 +6,54 @@
 -- generated `Learnt` of `empty`, `feed` and `join` is what a caller learns of a call, whatever it returned.
 -- The claim is `demand-3`: whatever summary the calls leave, and whatever the two answers then return, `Claim c s` holds. `run-reached` says that every
 -- list of calls leaves a summary. Assumes nothing.
-use Prim.Native.Nat.{ℕ}
 use mathlib.Core.Path.{_≡_, refl, sym, _∙_, ap}
 use mathlib.Core.Bool.{Bool, true, false}
-use mathlib.Core.List.{List, []}
+use mathlib.Core.List.{List, [], _∷_}
 use native.Mathlib.Omega.{arith}
-use contract.Lifetimes.{Lfts}
-use denote.Ref.{now}
-use denote.Triple.Clauses.{AtExit}
-use borrow.Fn.Kinds.{Dens, endedOf}
 use Rattle.laws.specs.Outcome.{none}
 use Rattle.laws.proofs.Outcome.{apart}
 use Rattle.sweep.specs.Answer.{crossingOutcome, keptOutcome, notKept}
-use Rattle.sweep.specs.Refusal.{refusalOf}
-use Rattle.sweep.specs.Runs.{Calls, start, feed, join, mark, Reached, made, fed, joined, leftAfter}
+use Rattle.sweep.specs.Runs.{Calls, mark, Reached, leftAfter, runOf, Returned, FedLists}
 use Rattle.sweep.specs.Scan.{Neighbours}
-use Rattle.sweep.specs.declared.Check.{Check}
-use Rattle.sweep.specs.declared.Check.the-variants as check
 use Rattle.sweep.specs.declared.Crossing.{Crossing}
 use Rattle.sweep.specs.declared.Kept.{Kept}
 use Rattle.sweep.proofs.Conditions.{lists-checked}
 use Rattle.sweep.proofs.Scans.{crossing-kept}
-use Rattle.sweep.proofs.Runs.{whole, lent, feed-refused, feed-taken}
+use Rattle.sweep.proofs.Runs.{whole, result-says, fed-lists, ran}
 use Rattle.sensitivity.specs.Scans.{equalCrosses, sensitivityCrossover, levelOf, drops, bandwidthOf}
 use Rattle.sensitivity.specs.Summary.{summaryOf, fedBy, joinOf, numberOfFed, leftBy, crossoverAnswer, bandwidthAnswer, bandwidthOutcome, Part, partRefusal, partReadings, bookOf}
 use Rattle.sensitivity.specs.declared.Reading.{Reading}
 use Rattle.sensitivity.specs.declared.summary.SensitivitySummary.{SensitivitySummary}
-use Rattle.sensitivity.specs.declared.summary.SensitivityFed.{SensitivityFed}
 use Rattle.sensitivity.specs.declared.summary.SensitivityFed.the-variants.{Taken, Refused}
 use Rattle.sensitivity.proofs.Laws.{no-crossover-in, none-of-crossover, no-bandwidth-in, none-of-bandwidth}
 use Rattle.sensitivity.proofs.Joins.{fed-append, join-append, crossover-answer, bandwidth-answer}
 use Rattle.sensitivity.proofs.summary.SensitivitySummary.empty.Reads as empty-reads
-use Rattle.sensitivity.proofs.summary.SensitivitySummary.empty.Kinds as empty-kinds
 use Rattle.sensitivity.proofs.summary.SensitivitySummary.feed.Reads as feed-reads
-use Rattle.sensitivity.proofs.summary.SensitivitySummary.feed.Kinds as feed-kinds
 use Rattle.sensitivity.proofs.summary.SensitivitySummary.join.Reads as join-reads
-use Rattle.sensitivity.proofs.summary.SensitivitySummary.join.Kinds as join-kinds
 use Rattle.sensitivity.proofs.summary.SensitivitySummary.crossover.Reads as crossover-reads
-use Rattle.sensitivity.proofs.summary.SensitivitySummary.crossover.Kinds as crossover-kinds
 use Rattle.sensitivity.proofs.summary.SensitivitySummary.bandwidth.Reads as bandwidth-reads
-use Rattle.sensitivity.proofs.summary.SensitivitySummary.bandwidth.Kinds as bandwidth-kinds
 
 -- ---- the calls, by their contracts
 
 -- s is what a call of `empty` returned
-pub record Made (s : SensitivitySummary) : Type 0 where
-  pub exits : AtExit (endedOf 0 empty-kinds.ps empty-kinds.r) tt
-  pub learnt : empty-reads.Learnt tt tt s exits
+abbrev pub Made : SensitivitySummary → Type 0
+Made s = Returned empty-reads.Learnt tt s
 
 -- t is the summary that the caller has after a call of `feed` on s with slices that hold the part's three lists
-pub record FedBy (s : SensitivitySummary) (p : Part) (t : SensitivitySummary) : Type 0 where
-  pub κs : Lfts 3
-  pub args : Dens κs feed-kinds.ps
-  pub exits : AtExit (endedOf 3 feed-kinds.ps feed-kinds.r) κs
-  pub result : SensitivityFed
-  pub self-is : args .0 ≡ s
-  pub omega-is : now (args .1 .0) ≡ p .omega
-  pub s-is : now (args .1 .1 .0) ≡ p .s
-  pub t-is : now (args .1 .1 .1 .0) ≡ p .t
-  pub learnt : feed-reads.Learnt κs args result exits
-  pub after : t ≡ leftBy result s
+abbrev pub FedBy : SensitivitySummary → Part → SensitivitySummary → Type 0
+FedBy s p t = FedLists (p .omega ∷ p .s ∷ p .t ∷ []) feed-reads.Learnt (λ r. leftBy r s) s t
 
 -- u is what a call of `join` on s and t returned
-pub record JoinedBy (s t u : SensitivitySummary) : Type 0 where
-  pub exits : AtExit (endedOf 0 join-kinds.ps join-kinds.r) tt
-  pub learnt : join-reads.Learnt tt (s, (t, tt)) u exits
+abbrev pub JoinedBy : SensitivitySummary → SensitivitySummary → SensitivitySummary → Type 0
+JoinedBy s t u = Returned join-reads.Learnt (s, (t, tt)) u
 
 -- r is what a call of `crossover` on s returned
-pub record CrossoverOf (s : SensitivitySummary) (r : Crossing) : Type 0 where
-  pub exits : AtExit (endedOf 0 crossover-kinds.ps crossover-kinds.r) tt
-  pub learnt : crossover-reads.Learnt tt (s, tt) r exits
+abbrev pub CrossoverOf : SensitivitySummary → Crossing → Type 0
+CrossoverOf s r = Returned crossover-reads.Learnt (s, tt) r
 
 -- r is what a call of `bandwidth` on s returned
-pub record BandwidthOf (s : SensitivitySummary) (r : Kept) : Type 0 where
-  pub exits : AtExit (endedOf 0 bandwidth-kinds.ps bandwidth-kinds.r) tt
-  pub learnt : bandwidth-reads.Learnt tt (s, tt) r exits
+abbrev pub BandwidthOf : SensitivitySummary → Kept → Type 0
+BandwidthOf s r = Returned bandwidth-reads.Learnt (s, tt) r
 
 -- s is a summary that the list of calls may leave
 abbrev pub Reaches : Calls Part → SensitivitySummary → Type 0
@@ -102,20 +75,11 @@ pub record Claim (c : Calls Part) (s : SensitivitySummary) : Type 0 where
 
 -- ---- the proof: whatever the calls leave is the summary of the book
 
-made-says : (s : SensitivitySummary) → Made s → s ≡ summaryOf [] false
-made-says s h = h .learnt
-
-fed-says : (l : List Reading) (m : Bool) (p : Part) (t : SensitivitySummary) → FedBy (summaryOf l m) p t
-    → t ≡ leftAfter (partRefusal l m p) (summaryOf l m) (fedBy (summaryOf l m) (partReadings p))
-unfolding partRefusal partReadings
-fed-says l m p t h = h .after ∙ (rw (h .self-is, h .omega-is, h .s-is, h .t-is) at (h .learnt .1))
-
-joined-says : (s t u : SensitivitySummary) → JoinedBy s t u → u ≡ joinOf s t
-joined-says s t u h = h .learnt
-
 pub summary-of-book : {c : Calls Part} {s : SensitivitySummary} → Reaches c s → s ≡ summaryOf (bookOf c) (mark c)
-unfolding bookOf
-summary-of-book r = whole summaryOf fedBy joinOf fed-append join-append partRefusal partReadings made-says fed-says joined-says r
+unfolding bookOf partRefusal partReadings
+summary-of-book r =
+    whole summaryOf fedBy joinOf fed-append join-append partRefusal partReadings
+    (λ s h. h .learnt) (λ l m p t h. h .after ∙ h .call .learnt .1) (λ s t u h. h .learnt) r
 
 -- the bandwidth of a book under a mark: 101 exactly under it, and 100 only without it
 under-mark : (m : Bool) (l : List Reading) → m ≡ true → bandwidthOutcome m l ≡ notKept
@@ -157,49 +121,27 @@ demand-3 c s h =
 
 -- ---- the claim is of something: every list of calls leaves a summary
 
--- what a feed returns whose conditions say k, t being the fed summary
-resultOf : Check → SensitivitySummary → SensitivityFed
-resultOf check.Passed t = Taken t
-resultOf (check.Refused e) t = Refused e
+-- the summary that the definitions leave after a feed
+next : SensitivitySummary → Part → SensitivitySummary
+next s p = leftAfter (partRefusal [] false p) s (fedBy s (partReadings p))
 
-result-says : (k : Check) {n : ℕ} (given : refusalOf k ≡ n) (s t : SensitivitySummary) → (numberOfFed (resultOf k t) ≡ n) × (leftBy (resultOf k t) s ≡ leftAfter n s t)
-unfolding resultOf numberOfFed leftBy
-result-says check.Passed given s t = feed-taken given s t refl refl
-result-says (check.Refused e) given s t = feed-refused given s t {e = e} refl
+feed-possible : (s : SensitivitySummary) (p : Part) → FedBy s p (next s p)
+unfolding next partRefusal partReadings numberOfFed leftBy
+feed-possible s p =
+    let r = result-says Taken Refused numberOfFed leftBy (λ t. refl) (λ e. refl) (λ s t. refl) (λ s e. refl) (lists-checked (p .omega) (p .s) (p .t)) s (fedBy s (partReadings p)) in
+    fed-lists ([], ([], ([], tt))) (r .0) (λ a. r .1) (sym (r .1 .1))
 
--- the summary that the definitions give
+-- the summary that the definitions leave after the calls
 pub run : Calls Part → SensitivitySummary
-run start = summaryOf [] false
-run (feed c p) = leftAfter (partRefusal (bookOf c) (mark c) p) (run c) (fedBy (run c) (partReadings p))
-run (join c d) = joinOf (run c) (run d)
+run c = runOf (summaryOf [] false) next joinOf c
 
 pub run-reached : (c : Calls Part) → Reaches c (run c)
-unfolding run partRefusal partReadings
-run-reached start = made (record { exits = tt; learnt = refl })
-run-reached (feed c p) =
-    let s = run c in
-    let t = fedBy s (partReadings p) in
-    let a = lent (p .omega) in
-    let b = lent (p .s) in
-    let d = lent (p .t) in
-    let k = lists-checked (p .omega) (p .s) (p .t) in
-    let said = result-says (k .0) (k .1) s t in
-    fed (run-reached c) (record {
-      κs = ([], ([], ([], tt)));
-      args = (s, (a, (b, (d, tt))));
-      exits = (s, (a, (b, (d, tt))));
-      result = resultOf (k .0) t;
-      self-is = refl;
-      omega-is = refl;
-      s-is = refl;
-      t-is = refl;
-      learnt = said;
-      after = sym (said .1);
-    })
-run-reached (join c d) = joined (run-reached c) (run-reached d) (record { exits = (run c, (run d, tt)); learnt = refl })
+unfolding run
+run-reached c =
+    ran (summaryOf [] false) next joinOf
+    (record { lifetimes = tt; exits = tt; learnt = refl }) feed-possible (λ s t. record { lifetimes = tt; exits = (s, (t, tt)); learnt = refl }) c
 
 -- ---- two lists of calls with the same book answer the same, however the sweep was cut, fed and joined
 
 pub same-crossover : (c d : Calls Part) → bookOf c ≡ bookOf d → (s t : SensitivitySummary) → Reaches c s → Reaches d t → (r q : Crossing) → CrossoverOf s r → CrossoverOf t q → crossingOutcome r ≡ crossingOutcome q
-same-crossover c d e s t h k r q g f =
-    demand-3 c s h .crossover r g ∙ ap (λ (l : List Reading). crossingOutcome (sensitivityCrossover l)) e ∙ sym (demand-3 d t k .crossover q f)
+same-crossover c d e s t h k r q g f = cc (demand-3 c s h .crossover r g, demand-3 d t k .crossover q f)
