@@ -1,4 +1,3 @@
-pub mod Fed
 pub mod BodeRuns
 pub mod SensitivityRuns
 pub mod CurveRuns
