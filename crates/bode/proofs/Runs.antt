@@ -15,7 +15,7 @@ use Rattle.sweep.specs.Runs.{Calls, mark, Reached, leftAfter, runOf, Returned, 
 use Rattle.sweep.specs.Scan.{Neighbours}
 use Rattle.sweep.specs.declared.Crossing.{Crossing}
 use Rattle.sweep.proofs.Conditions.{lists-checked}
-use Rattle.sweep.proofs.Runs.{whole, result-says, fed-lists, ran}
+use Rattle.sweep.proofs.Runs.{whole, result-says, fed-lists, ran-reached}
 use Rattle.bode.specs.Bode.{gainCrosses, phaseCrosses, gainCrossover, phaseCrossover}
 use Rattle.bode.specs.Summary.{summaryOf, fedBy, joinOf, numberOfFed, leftBy, gainAnswer, phaseAnswer, Part, partRefusal, partReadings, bookOf}
 use Rattle.bode.specs.declared.Reading.{Reading}
@@ -101,7 +101,8 @@ next s p = leftAfter (partRefusal [] false p) s (fedBy s (partReadings p))
 feed-possible : (s : BodeSummary) (p : Part) → FedBy s p (next s p)
 unfolding next partRefusal partReadings numberOfFed leftBy
 feed-possible s p =
-    let r = result-says Taken Refused numberOfFed leftBy (λ t. refl) (λ e. refl) (λ s t. refl) (λ s e. refl) (lists-checked (p .omega) (p .db) (p .phase)) s (fedBy s (partReadings p)) in
+    let k = lists-checked (p .omega) (p .db) (p .phase) in
+    let r = result-says Taken Refused numberOfFed leftBy (λ t. refl) (λ e. refl) (λ s t. refl) (λ s e. refl) k s (fedBy s (partReadings p)) in
     fed-lists ([], ([], ([], tt))) (r .0) (λ a. r .1) (sym (r .1 .1))
 
 -- the summary that the definitions leave after the calls
@@ -111,7 +112,7 @@ run c = runOf (summaryOf [] false) next joinOf c
 pub run-reached : (c : Calls Part) → Reaches c (run c)
 unfolding run
 run-reached c =
-    ran (summaryOf [] false) next joinOf
+    ran-reached (summaryOf [] false) next joinOf
     (record { lifetimes = tt; exits = tt; learnt = refl }) feed-possible (λ s t. record { lifetimes = tt; exits = (s, (t, tt)); learnt = refl }) c
 
 -- ---- two lists of calls with the same book answer the same, however the sweep was cut, fed and joined

@@ -7,7 +7,7 @@ use mathlib.Core.List.{[], _∷_}
 use lib.Ieee.{Float}
 use Rattle.sweep.specs.Answer.{crossingOutcome}
 use Rattle.sweep.specs.Runs.{Calls, mark, Reached, runOf, Returned, FedLists, Answered}
-use Rattle.sweep.proofs.Runs.{fed-lists, ran}
+use Rattle.sweep.proofs.Runs.{fed-lists, ran-reached}
 use Rattle.sweep.proofs.Plain.{whole-plain}
 use Rattle.bode.specs.Bode.{gainCrossover, phaseCrossover}
 use Rattle.bode.specs.Summary.{summaryOf, fedBy, joinOf, Part, partRefusal, partReadings, bookOf}
@@ -91,7 +91,7 @@ run c = runOf (plainOf (summaryOf [] false)) (λ p x. feeds p x .summary) joins 
 pub run-reached : (c : Calls Part) → Reaches c (run c)
 unfolding run feeds joins partRefusal partReadings
 run-reached c =
-    ran (plainOf (summaryOf [] false)) (λ p x. feeds p x .summary) joins
+    ran-reached (plainOf (summaryOf [] false)) (λ p x. feeds p x .summary) joins
     (record { lifetimes = tt; exits = tt; learnt = refl })
     (λ p x. fed-lists ([], ([], ([], tt))) (feeds p x) (λ a. refl) refl)
     (λ p q. record { lifetimes = tt; exits = (p, (q, tt)); learnt = refl }) c

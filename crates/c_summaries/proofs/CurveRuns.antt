@@ -5,7 +5,7 @@ use mathlib.Core.Bool.{false}
 use mathlib.Core.List.{[], _∷_}
 use lib.Ieee.{Float}
 use Rattle.sweep.specs.Runs.{Calls, mark, Reached, runOf, Returned, FedLists}
-use Rattle.sweep.proofs.Runs.{fed-lists, ran}
+use Rattle.sweep.proofs.Runs.{fed-lists, ran-reached}
 use Rattle.sweep.proofs.Plain.{whole-plain}
 use Rattle.nyquist.specs.Curve.{distanceOf}
 use Rattle.nyquist.specs.Summary.{summaryOf, fedBy, joinOf, approachAnswer, Part, partRefusal, partPoints, bookOf}
@@ -78,7 +78,7 @@ run c = runOf (plainOf (summaryOf [] false)) (λ p x. feeds p x .summary) joins 
 pub run-reached : (c : Calls Part) → Reaches c (run c)
 unfolding run feeds joins partRefusal partPoints
 run-reached c =
-    ran (plainOf (summaryOf [] false)) (λ p x. feeds p x .summary) joins
+    ran-reached (plainOf (summaryOf [] false)) (λ p x. feeds p x .summary) joins
     (record { lifetimes = tt; exits = tt; learnt = refl })
     (λ p x. fed-lists ([], ([], tt)) (feeds p x) (λ a. refl) refl)
     (λ p q. record { lifetimes = tt; exits = (p, (q, tt)); learnt = refl }) c

@@ -12,7 +12,7 @@ use mathlib.Core.List.{List, [], _∷_}
 use lib.Ieee.{Float}
 use Rattle.sweep.specs.Runs.{Calls, mark, Reached, leftAfter, runOf, Returned, FedLists}
 use Rattle.sweep.proofs.Conditions.{Checked, scan-checked}
-use Rattle.sweep.proofs.Runs.{whole, result-says, fed-lists, ran}
+use Rattle.sweep.proofs.Runs.{whole, result-says, fed-lists, ran-reached}
 use Rattle.nyquist.specs.Curve.{distanceOf, curveRefusal}
 use Rattle.nyquist.specs.Summary.{summaryOf, fedBy, joinOf, approachAnswer, numberOfFed, leftBy, Part, partRefusal, partPoints, bookOf}
 use Rattle.nyquist.specs.declared.summary.CurveSummary.{CurveSummary}
@@ -75,7 +75,8 @@ next s p = leftAfter (partRefusal [] false p) s (fedBy s (partPoints p))
 feed-possible : (s : CurveSummary) (p : Part) → FedBy s p (next s p)
 unfolding next partRefusal partPoints numberOfFed leftBy
 feed-possible s p =
-    let r = result-says Taken Refused numberOfFed leftBy (λ t. refl) (λ e. refl) (λ s t. refl) (λ s e. refl) (curve-checked (p .re) (p .im)) s (fedBy s (partPoints p)) in
+    let k = curve-checked (p .re) (p .im) in
+    let r = result-says Taken Refused numberOfFed leftBy (λ t. refl) (λ e. refl) (λ s t. refl) (λ s e. refl) k s (fedBy s (partPoints p)) in
     fed-lists ([], ([], tt)) (r .0) (λ a. r .1) (sym (r .1 .1))
 
 -- the summary that the definitions leave after the calls
@@ -85,7 +86,7 @@ run c = runOf (summaryOf [] false) next joinOf c
 pub run-reached : (c : Calls Part) → Reaches c (run c)
 unfolding run
 run-reached c =
-    ran (summaryOf [] false) next joinOf
+    ran-reached (summaryOf [] false) next joinOf
     (record { lifetimes = tt; exits = tt; learnt = refl }) feed-possible (λ s t. record { lifetimes = tt; exits = (s, (t, tt)); learnt = refl }) c
 
 -- ---- two lists of calls with the same book answer the same, however the curve was cut, fed and joined

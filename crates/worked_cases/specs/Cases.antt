@@ -11,7 +11,7 @@ use Rattle.scalar.specs.Sqrt.{sqrtOf}
 use Rattle.complex.specs.declared.Complex.{Complex}
 use Rattle.complex.specs.Complex.{newOf, valuesOf, product, quotient, reciprocalOf, magnitudeOf}
 use Rattle.sweep.specs.Refusal.{listsRefusal}
-use Rattle.sweep.specs.Runs.{Calls, start, feed, join, leftAfter}
+use Rattle.sweep.specs.Runs.{Calls, leftAfter, runOf}
 use Rattle.sweep.specs.Scan.{scannedBy}
 use Rattle.transfer_fn.specs.declared.TransferFn.{TransferFn}
 use Rattle.transfer_fn.specs.Evaluation.{evaluation}
@@ -92,30 +92,24 @@ truth b = found (cond b f1 f0 ∷ [])
 abbrev withList : Outcome → List Float → Outcome
 withList o l = record { number = o .number; values = l }
 
--- what a list of calls leaves, of summaries that are made, fed and joined so
-abbrev leftBy : {P S : Type 0} → S → (S → P → S) → (S → S → S) → Calls P → S
-leftBy made fed joined start = made
-leftBy made fed joined (feed c p) = fed (leftBy made fed joined c) p
-leftBy made fed joined (join c d) = joined (leftBy made fed joined c) (leftBy made fed joined d)
-
--- the same for each kind of sweep, by the definitions of its summary
+-- what a list of calls leaves of each kind of sweep, by the definitions of its summary
 abbrev bodeFed : BodeSummary → Bode → BodeSummary
 bodeFed s p = leftAfter (listsRefusal (p .omega) (p .db) (p .phase)) s (bode-summary.fedBy s (bode-summary.partReadings p))
 
 abbrev bodeLeft : Calls Bode → BodeSummary
-bodeLeft c = leftBy (bode-summary.summaryOf [] false) bodeFed bode-summary.joinOf c
+bodeLeft c = runOf (bode-summary.summaryOf [] false) bodeFed bode-summary.joinOf c
 
 abbrev sensitivityFed : SensitivitySummary → Sensitivity → SensitivitySummary
 sensitivityFed s p = leftAfter (listsRefusal (p .omega) (p .s) (p .t)) s (sensitivity-summary.fedBy s (sensitivity-summary.partReadings p))
 
 abbrev sensitivityLeft : Calls Sensitivity → SensitivitySummary
-sensitivityLeft c = leftBy (sensitivity-summary.summaryOf [] false) sensitivityFed sensitivity-summary.joinOf c
+sensitivityLeft c = runOf (sensitivity-summary.summaryOf [] false) sensitivityFed sensitivity-summary.joinOf c
 
 abbrev curveFed : CurveSummary → Curve → CurveSummary
 curveFed s p = leftAfter (curve.curveRefusal (p .re) (p .im)) s (curve-summary.fedBy s (curve-summary.partPoints p))
 
 abbrev curveLeft : Calls Curve → CurveSummary
-curveLeft c = leftBy (curve-summary.summaryOf [] false) curveFed curve-summary.joinOf c
+curveLeft c = runOf (curve-summary.summaryOf [] false) curveFed curve-summary.joinOf c
 
 -- by the definition that the function's contract cites
 unfoldable pub outcome : Case → Outcome
