@@ -1,3 +1,4 @@
+pub mod Crossovers
 pub mod Readings
 pub mod Laws
 pub mod Joins

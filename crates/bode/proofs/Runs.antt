@@ -18,10 +18,11 @@ use Rattle.sweep.proofs.Conditions.{lists-checked}
 use Rattle.sweep.proofs.Runs.{whole, result-says, fed-lists, ran-reached}
 use Rattle.bode.specs.Bode.{gainCrosses, phaseCrosses, gainCrossover, phaseCrossover}
 use Rattle.bode.specs.Summary.{summaryOf, fedBy, joinOf, numberOfFed, leftBy, gainAnswer, phaseAnswer, Part, partRefusal, partReadings, bookOf}
+use Rattle.bode.specs.declared.Crossover.the-variants.{Gain, Phase}
 use Rattle.bode.specs.declared.Reading.{Reading}
 use Rattle.bode.specs.declared.summary.BodeSummary.{BodeSummary}
 use Rattle.bode.specs.declared.summary.BodeFed.the-variants.{Taken, Refused}
-use Rattle.bode.proofs.Laws.{no-gain-in, none-of-gain, no-phase-in, none-of-phase}
+use Rattle.bode.proofs.Laws.{no-crossover-in, none-of-crossover}
 use Rattle.bode.proofs.Joins.{fed-append, join-append, gain-answer, phase-answer}
 use Rattle.bode.proofs.summary.BodeSummary.empty.Reads as empty-reads
 use Rattle.bode.proofs.summary.BodeSummary.feed.Reads as feed-reads
@@ -80,10 +81,10 @@ demand-3 c s h =
     record {
       gain = gain-is;
       phase = phase-is;
-      no-gain = λ r g e. no-gain-in (bookOf c) (sym (gain-is r g) ∙ e);
-      gain-none = λ r g e. gain-is r g ∙ none-of-gain (bookOf c) e;
-      no-phase = λ r g e. no-phase-in (bookOf c) (sym (phase-is r g) ∙ e);
-      phase-none = λ r g e. phase-is r g ∙ none-of-phase (bookOf c) e;
+      no-gain = λ r g e. no-crossover-in Gain (bookOf c) (sym (gain-is r g) ∙ e);
+      gain-none = λ r g e. gain-is r g ∙ none-of-crossover Gain (bookOf c) e;
+      no-phase = λ r g e. no-crossover-in Phase (bookOf c) (sym (phase-is r g) ∙ e);
+      phase-none = λ r g e. phase-is r g ∙ none-of-crossover Phase (bookOf c) e;
     }
   where
     gain-is : (r : Crossing) → GainOf s r → crossingOutcome r ≡ crossingOutcome (gainCrossover (bookOf c))

@@ -6,7 +6,10 @@ use Rattle.scalar.specs.Scalar.{f0, eps, absOf}
 use Rattle.sweep.specs.Scan.{firstPair, crossIf, crossesBy, between, zip3}
 use Rattle.sweep.specs.declared.Crossing.{Crossing}
 use Rattle.sweep.specs.declared.Crossing.the-variants.{At, Missing}
+use Rattle.sweep.specs.declared.Sought.{Sought}
 use Rattle.sweep.specs.declared.Sought.the-variants.{Zero, Level, Enclosing}
+use Rattle.bode.specs.declared.Crossover.{Crossover}
+use Rattle.bode.specs.declared.Crossover.the-variants.{Gain, Phase}
 use Rattle.bode.specs.declared.Reading.{Reading}
 
 -- 180
@@ -81,3 +84,50 @@ gainMargin l = marginAt gainMarginPair l (phaseCrossover l)
 
 unfoldable pub phaseMargin : List Reading → Crossing
 phaseMargin l = marginAt phaseMarginPair l (gainCrossover l)
+
+-- ---- the same for either crossover
+
+-- what is sought between two neighbours, and in which of their values: the magnitude, or the phase
+abbrev pub soughtOf : Crossover → Sought
+soughtOf Gain = Zero
+soughtOf Phase = Level (neg f180)
+
+abbrev pub valueOf : Crossover → Reading → Float
+valueOf Gain r = r .db
+valueOf Phase r = r .phase
+
+-- the list of these values
+abbrev pub valuesOf : Crossover → List Float → List Float → List Float
+valuesOf Gain db phase = db
+valuesOf Phase db phase = phase
+
+-- where two readings that cross do so
+abbrev pub betweenOf : Crossover → Reading → Reading → Float
+betweenOf Gain = gainBetween
+betweenOf Phase = phaseBetween
+
+-- whether two readings cross, and where
+abbrev pub crossesOf : Crossover → Reading → Reading → Bool
+crossesOf which a b = crossesBy (soughtOf which) (valueOf which a) (valueOf which b)
+
+abbrev pub pairOf : Crossover → Reading → Reading → Crossing
+pairOf Gain = gainPair
+pairOf Phase = phasePair
+
+-- the first crossing in a list
+abbrev pub crossoverOf : Crossover → List Reading → Crossing
+crossoverOf Gain = gainCrossover
+crossoverOf Phase = phaseCrossover
+
+-- the margin that is taken at a crossover: at the gain crossover the phase margin, at the phase crossover the gain margin
+abbrev pub marginBetweenOf : Crossover → Float → Reading → Reading → Float
+marginBetweenOf Gain = phaseMarginBetween
+marginBetweenOf Phase = gainMarginBetween
+
+abbrev pub marginPairOf : Crossover → Float → Reading → Reading → Crossing
+marginPairOf Gain = phaseMarginPair
+marginPairOf Phase = gainMarginPair
+
+abbrev pub marginOf : Crossover → List Reading → Crossing
+marginOf Gain = phaseMargin
+marginOf Phase = gainMargin

@@ -7,8 +7,8 @@ ghost use Prim.Native.Nat.{_<_};
 ghost use lib.ListN.{length};
 ghost use Rattle.sweep.specs.Refusal.{SameLength, scanRefusal};
 ghost use Rattle.sweep.specs.Answer.{outcomeOf, scanned};
-ghost use Rattle.sweep.specs.Scan.{firstPair, at3, scannedBy};
-ghost use Rattle.bode.specs.Bode.{reading, readings, gainBetween, gainPair, phaseBetween, gainCrossover, phaseCrossover, partOfWay, valueAt, gainMarginPair, phaseMarginPair, gainMargin, phaseMargin};
+ghost use Rattle.sweep.specs.Scan.{firstPair, firstIndex, at3, scannedBy};
+ghost use Rattle.bode.specs.Bode.{reading, readings, gainPair, gainCrossover, phaseCrossover, partOfWay, valueAt, gainMargin, phaseMargin, soughtOf, valueOf, valuesOf, betweenOf, pairOf, crossoverOf, marginBetweenOf, marginPairOf, marginOf};
 ghost use Rattle.bode.specs.Readings.{omegas, dbs, phases, scanLength, begun, taken};
 pub use summary::BodeFed;
 pub use summary::BodePlain;
@@ -37,22 +37,52 @@ fn reading_at(omega: &[f64], db: &[f64], phase: &[f64], i: usize) -> Reading
     }
 }
 
-// Where the magnitude is 0 dB on the straight line from a to b.
-pub fn gain_between(a: Reading, b: Reading) -> f64
-    ensures { λ r. ⌜ r ≡ gainBetween a b ⌝ }
-{
-    let m0 = a.db;
-    let m1 = b.db;
-    sweep::interpolate(a.omega, b.omega, -m0, m1 - m0)
+// Which crossover of a sweep: where the magnitude crosses 0 dB, or where the phase crosses -180 degrees.
+pub enum Crossover {
+    Gain,
+    Phase,
 }
 
-// Where the phase is -180 degrees on the straight line from a to b.
-pub fn phase_between(a: Reading, b: Reading) -> f64
-    ensures { λ r. ⌜ r ≡ phaseBetween a b ⌝ }
+// What is sought between two neighbours.
+pub fn sought(which: Crossover) -> Sought
+    ensures { λ r. ⌜ r ≡ soughtOf which ⌝ }
 {
-    let p0 = a.phase;
-    let p1 = b.phase;
-    sweep::interpolate(a.omega, b.omega, -180.0 - p0, p1 - p0)
+    match which {
+        Crossover::Gain => Sought::Zero,
+        Crossover::Phase => Sought::Level(-180.0),
+    }
+}
+
+// The value of a reading in which it is sought.
+fn value(which: Crossover, reading: Reading) -> f64
+    ensures { λ r. ⌜ r ≡ valueOf which reading ⌝ }
+{
+    match which {
+        Crossover::Gain => reading.db,
+        Crossover::Phase => reading.phase,
+    }
+}
+
+// Where the magnitude is 0 dB, or the phase -180 degrees, on the straight line from a to b.
+pub fn between(which: Crossover, a: Reading, b: Reading) -> f64
+    ensures { λ r. ⌜ r ≡ betweenOf which a b ⌝ }
+{
+    let w0 = a.omega;
+    let w1 = b.omega;
+    match which {
+        Crossover::Gain => sweep::interpolate(w0, w1, -a.db, b.db - a.db),
+        Crossover::Phase => sweep::interpolate(w0, w1, -180.0 - a.phase, b.phase - a.phase),
+    }
+}
+
+// Where two readings cross.
+fn pair(which: Crossover, a: Reading, b: Reading) -> Crossing
+    ensures { λ r. ⌜ r ≡ pairOf which a b ⌝ }
+{
+    if sweep::crosses(sought(which), value(which, a), value(which, b)) {
+        return Crossing::At(between(which, a, b));
+    }
+    Crossing::Missing
 }
 
 // How far x lies on the way from w0 to w1.
@@ -74,81 +104,85 @@ fn value_at(x: f64, w0: f64, w1: f64, v0: f64, v1: f64) -> f64
     v0 + t * (v1 - v0)
 }
 
-// The first crossing of 0 dB.
-fn gain_crossing(omega: &[f64], db: &[f64], phase: &[f64]) -> Crossing
-    requires { ⌜ SameLength (now omega) (now db) (now phase) ⌝ }
-    ensures { λ r. ⌜ r ≡ gainCrossover (readings (now (omega .entry)) (now (db .entry)) (now (phase .entry))) ⌝ }
+// The place of the first reading that crosses with the one behind it: the last place where none does. Each arm has a
+// search of its own, for speed.
+fn place_of(which: Crossover, db: &[f64], phase: &[f64]) -> usize
+    ensures { λ r. ⌜ r ≡ firstIndex (soughtOf which) (valuesOf which (now (db .entry)) (now (phase .entry))) ⌝ }
 {
-    let i = sweep::first_index(Sought::Zero, db);
-    if sweep::has_pair(i, db.len()) {
+    match which {
+        Crossover::Gain => sweep::first_index(Sought::Zero, db),
+        Crossover::Phase => sweep::first_index(Sought::Level(-180.0), phase),
+    }
+}
+
+// The first crossing.
+fn crossing(which: Crossover, omega: &[f64], db: &[f64], phase: &[f64]) -> Crossing
+    requires { ⌜ SameLength (now omega) (now db) (now phase) ⌝ }
+    ensures { λ r. ⌜ r ≡ crossoverOf which (readings (now (omega .entry)) (now (db .entry)) (now (phase .entry))) ⌝ }
+{
+    let i = place_of(which, db, phase);
+    if sweep::has_pair(i, omega.len()) {
         let a = reading_at(omega, db, phase, i);
         let b = reading_at(omega, db, phase, i + 1);
-        return Crossing::At(gain_between(a, b));
+        return Crossing::At(between(which, a, b));
     }
     Crossing::Missing
 }
 
-// The first crossing of -180 degrees.
-fn phase_crossing(omega: &[f64], db: &[f64], phase: &[f64]) -> Crossing
-    requires { ⌜ SameLength (now omega) (now db) (now phase) ⌝ }
-    ensures { λ r. ⌜ r ≡ phaseCrossover (readings (now (omega .entry)) (now (db .entry)) (now (phase .entry))) ⌝ }
+// The margin at a crossover x between a and b: at the gain crossover 180 plus the phase, at the phase crossover the
+// magnitude negated.
+fn margin_between(which: Crossover, x: f64, a: Reading, b: Reading) -> f64
+    ensures { λ r. ⌜ r ≡ marginBetweenOf which x a b ⌝ }
 {
-    let i = sweep::first_index(Sought::Level(-180.0), phase);
-    if sweep::has_pair(i, phase.len()) {
-        let a = reading_at(omega, db, phase, i);
-        let b = reading_at(omega, db, phase, i + 1);
-        return Crossing::At(phase_between(a, b));
+    match which {
+        Crossover::Gain => 180.0 + value_at(x, a.omega, b.omega, a.phase, b.phase),
+        Crossover::Phase => -value_at(x, a.omega, b.omega, a.db, b.db),
     }
-    Crossing::Missing
 }
 
-// The magnitude at x, negated, in the first pair that encloses x.
-fn gain_margin_at(x: f64, omega: &[f64], db: &[f64], phase: &[f64]) -> Crossing
+// The same in the first pair that encloses x.
+fn margin_at(which: Crossover, x: f64, omega: &[f64], db: &[f64], phase: &[f64]) -> Crossing
     requires { ⌜ SameLength (now omega) (now db) (now phase) ⌝ }
-    ensures { λ r. ⌜ r ≡ firstPair (gainMarginPair x) (readings (now (omega .entry)) (now (db .entry)) (now (phase .entry))) ⌝ }
+    ensures { λ r. ⌜ r ≡ firstPair (marginPairOf which x) (readings (now (omega .entry)) (now (db .entry)) (now (phase .entry))) ⌝ }
 {
     let i = sweep::first_index(Sought::Enclosing(x), omega);
     if sweep::has_pair(i, omega.len()) {
         let a = reading_at(omega, db, phase, i);
         let b = reading_at(omega, db, phase, i + 1);
-        return Crossing::At(-value_at(x, a.omega, b.omega, a.db, b.db));
+        return Crossing::At(margin_between(which, x, a, b));
     }
     Crossing::Missing
 }
 
-// 180 plus the phase at x, in the first pair that encloses x.
-fn phase_margin_at(x: f64, omega: &[f64], db: &[f64], phase: &[f64]) -> Crossing
+// The margin at the first crossing: the phase margin at the gain crossover, the gain margin at the phase crossover.
+fn margin_of(which: Crossover, omega: &[f64], db: &[f64], phase: &[f64]) -> Crossing
     requires { ⌜ SameLength (now omega) (now db) (now phase) ⌝ }
-    ensures { λ r. ⌜ r ≡ firstPair (phaseMarginPair x) (readings (now (omega .entry)) (now (db .entry)) (now (phase .entry))) ⌝ }
+    ensures { λ r. ⌜ r ≡ marginOf which (readings (now (omega .entry)) (now (db .entry)) (now (phase .entry))) ⌝ }
 {
-    let i = sweep::first_index(Sought::Enclosing(x), omega);
-    if sweep::has_pair(i, omega.len()) {
-        let a = reading_at(omega, db, phase, i);
-        let b = reading_at(omega, db, phase, i + 1);
-        return Crossing::At(180.0 + value_at(x, a.omega, b.omega, a.phase, b.phase));
-    }
-    Crossing::Missing
-}
-
-fn gain_margin_of(omega: &[f64], db: &[f64], phase: &[f64]) -> Crossing
-    requires { ⌜ SameLength (now omega) (now db) (now phase) ⌝ }
-    ensures { λ r. ⌜ r ≡ gainMargin (readings (now (omega .entry)) (now (db .entry)) (now (phase .entry))) ⌝ }
-{
-    let crossover = phase_crossing(omega, db, phase);
+    let crossover = crossing(which, omega, db, phase);
     match crossover {
-        Crossing::At(x) => gain_margin_at(x, omega, db, phase),
+        Crossing::At(x) => margin_at(which, x, omega, db, phase),
         Crossing::Missing => crossover,
     }
 }
 
-fn phase_margin_of(omega: &[f64], db: &[f64], phase: &[f64]) -> Crossing
-    requires { ⌜ SameLength (now omega) (now db) (now phase) ⌝ }
-    ensures { λ r. ⌜ r ≡ phaseMargin (readings (now (omega .entry)) (now (db .entry)) (now (phase .entry))) ⌝ }
+// The first crossing in lists that meet the conditions, or the refusal.
+fn crossover_frequency(which: Crossover, omega: &[f64], db: &[f64], phase: &[f64]) -> Answer
+    ensures { λ r. ⌜ outcomeOf r ≡ scannedBy reading (crossoverOf which) (now (omega .entry)) (now (db .entry)) (now (phase .entry)) ⌝ }
 {
-    let crossover = gain_crossing(omega, db, phase);
-    match crossover {
-        Crossing::At(x) => phase_margin_at(x, omega, db, phase),
-        Crossing::Missing => crossover,
+    match sweep::check_lists(omega, db, phase) {
+        Check::Refused(e) => Answer::Refused(e),
+        Check::Passed => sweep::found(crossing(which, omega, db, phase)),
+    }
+}
+
+// The margin at it, or the refusal.
+fn margin(which: Crossover, omega: &[f64], db: &[f64], phase: &[f64]) -> Answer
+    ensures { λ r. ⌜ outcomeOf r ≡ scannedBy reading (marginOf which) (now (omega .entry)) (now (db .entry)) (now (phase .entry)) ⌝ }
+{
+    match sweep::check_lists(omega, db, phase) {
+        Check::Refused(e) => Answer::Refused(e),
+        Check::Passed => sweep::found(margin_of(which, omega, db, phase)),
     }
 }
 
@@ -156,40 +190,28 @@ fn phase_margin_of(omega: &[f64], db: &[f64], phase: &[f64]) -> Crossing
 pub fn gain_crossover_frequency(omega: &[f64], db: &[f64], phase: &[f64]) -> Answer
     ensures { λ r. ⌜ outcomeOf r ≡ scannedBy reading gainCrossover (now (omega .entry)) (now (db .entry)) (now (phase .entry)) ⌝ }
 {
-    match sweep::check_lists(omega, db, phase) {
-        Check::Refused(e) => Answer::Refused(e),
-        Check::Passed => sweep::found(gain_crossing(omega, db, phase)),
-    }
+    crossover_frequency(Crossover::Gain, omega, db, phase)
 }
 
 // The frequency where the phase first crosses -180 degrees.
 pub fn phase_crossover_frequency(omega: &[f64], db: &[f64], phase: &[f64]) -> Answer
     ensures { λ r. ⌜ outcomeOf r ≡ scannedBy reading phaseCrossover (now (omega .entry)) (now (db .entry)) (now (phase .entry)) ⌝ }
 {
-    match sweep::check_lists(omega, db, phase) {
-        Check::Refused(e) => Answer::Refused(e),
-        Check::Passed => sweep::found(phase_crossing(omega, db, phase)),
-    }
+    crossover_frequency(Crossover::Phase, omega, db, phase)
 }
 
 // The gain margin in dB: the negated magnitude at the phase crossover.
 pub fn gain_margin(omega: &[f64], db: &[f64], phase: &[f64]) -> Answer
     ensures { λ r. ⌜ outcomeOf r ≡ scannedBy reading gainMargin (now (omega .entry)) (now (db .entry)) (now (phase .entry)) ⌝ }
 {
-    match sweep::check_lists(omega, db, phase) {
-        Check::Refused(e) => Answer::Refused(e),
-        Check::Passed => sweep::found(gain_margin_of(omega, db, phase)),
-    }
+    margin(Crossover::Phase, omega, db, phase)
 }
 
 // The phase margin in degrees: 180 plus the phase at the gain crossover.
 pub fn phase_margin(omega: &[f64], db: &[f64], phase: &[f64]) -> Answer
     ensures { λ r. ⌜ outcomeOf r ≡ scannedBy reading phaseMargin (now (omega .entry)) (now (db .entry)) (now (phase .entry)) ⌝ }
 {
-    match sweep::check_lists(omega, db, phase) {
-        Check::Refused(e) => Answer::Refused(e),
-        Check::Passed => sweep::found(phase_margin_of(omega, db, phase)),
-    }
+    margin(Crossover::Gain, omega, db, phase)
 }
 
 // A scan of readings on its way: the last two that it took, and the place where it ends.
@@ -242,16 +264,6 @@ fn take_reading(s: GainScan, r: Reading) -> GainScan
     }
 }
 
-// Where two readings cross 0 dB.
-fn gain_pair(a: Reading, b: Reading) -> Crossing
-    ensures { λ r. ⌜ r ≡ gainPair a b ⌝ }
-{
-    if sweep::crosses(Sought::Zero, a.db, b.db) {
-        return Crossing::At(gain_between(a, b));
-    }
-    Crossing::Missing
-}
-
 // What a scan of n readings answers at its end.
 fn gain_scanned(s: GainScan, n: usize) -> Answer
     ensures { λ r. ⌜ outcomeOf r ≡ scanned (scanRefusal true n) (gainPair (s .earlier) (s .last)) ⌝ }
@@ -261,7 +273,7 @@ fn gain_scanned(s: GainScan, n: usize) -> Answer
         Check::Passed => {
             let earlier = s.earlier;
             let last = s.last;
-            sweep::found(gain_pair(earlier, last))
+            sweep::found(pair(Crossover::Gain, earlier, last))
         }
     }
 }

@@ -7,14 +7,14 @@ ghost use Rattle.sweep.specs.Refusal.{SameLength, listsRefusal};
 ghost use Rattle.sweep.specs.Answer.{crossingOutcome};
 ghost use Rattle.sweep.specs.Scan.{orElse, crossingAt};
 ghost use Rattle.sweep.specs.Runs.{leftAfter};
-ghost use Rattle.bode.specs.Bode.{readings, gainPair, phasePair, gainCrossover, phaseCrossover};
+ghost use Rattle.bode.specs.Bode.{readings, pairOf, crossoverOf};
 ghost use Rattle.bode.specs.Summary.{zeroReading, summaryOf, fedBy, joinOf, numberOfFed, leftBy, gainAnswer, phaseAnswer};
 ghost use Rattle.bode.specs.Plain.{plainOf, fromPlain};
+use super::Crossover;
 use super::Reading;
 use sweep::Check;
 use sweep::Crossing;
 use sweep::FreqError;
-use sweep::Sought;
 
 // Whether there are readings, the first and the last of them, and the first crossing of 0 dB and of -180 degrees.
 pub struct BodeSummary {
@@ -73,54 +73,31 @@ fn either(test: bool, a: Reading, b: Reading) -> Reading
     if test { a } else { b }
 }
 
-// The crossing of -180 degrees between two neighbours.
-fn phase_pair(a: Reading, b: Reading) -> Crossing
-    ensures { λ r. ⌜ r ≡ phasePair a b ⌝ }
-{
-    if sweep::crosses(Sought::Level(-180.0), a.phase, b.phase) {
-        return Crossing::At(super::phase_between(a, b));
-    }
-    Crossing::Missing
-}
-
-// The crossing where one sweep goes over into another: a is the last reading of the one and b the first of the other.
-fn gain_at(both: bool, a: Reading, b: Reading) -> Crossing
-    ensures { λ r. ⌜ r ≡ crossingAt gainPair both a b ⌝ }
+// The crossing where one sweep goes over into another: a is the last reading of the one and b the first of the other,
+// if both have readings.
+fn crossing_at(which: Crossover, both: bool, a: Reading, b: Reading) -> Crossing
+    ensures { λ r. ⌜ r ≡ crossingAt (pairOf which) both a b ⌝ }
 {
     if both {
-        return super::gain_pair(a, b);
+        return super::pair(which, a, b);
     }
     Crossing::Missing
 }
 
-fn phase_at(both: bool, a: Reading, b: Reading) -> Crossing
-    ensures { λ r. ⌜ r ≡ crossingAt phasePair both a b ⌝ }
-{
-    if both {
-        return phase_pair(a, b);
-    }
-    Crossing::Missing
-}
-
-// What was found already, else the part's own first crossing of 0 dB. The part is scanned only where it decides.
-fn gain_from(found: Crossing, omega: &[f64], db: &[f64], phase: &[f64]) -> Crossing
+// What was found already, else the part's own first crossing. The part is scanned only where it decides.
+fn crossing_from(
+    which: Crossover,
+    found: Crossing,
+    omega: &[f64],
+    db: &[f64],
+    phase: &[f64],
+) -> Crossing
     requires { ⌜ SameLength (now omega) (now db) (now phase) ⌝ }
-    ensures { λ r. ⌜ r ≡ orElse found (gainCrossover (readings (now (omega .entry)) (now (db .entry)) (now (phase .entry)))) ⌝ }
+    ensures { λ r. ⌜ r ≡ orElse found (crossoverOf which (readings (now (omega .entry)) (now (db .entry)) (now (phase .entry)))) ⌝ }
 {
     match found {
         Crossing::At(_) => found,
-        Crossing::Missing => super::gain_crossing(omega, db, phase),
-    }
-}
-
-// The same of -180 degrees.
-fn phase_from(found: Crossing, omega: &[f64], db: &[f64], phase: &[f64]) -> Crossing
-    requires { ⌜ SameLength (now omega) (now db) (now phase) ⌝ }
-    ensures { λ r. ⌜ r ≡ orElse found (phaseCrossover (readings (now (omega .entry)) (now (db .entry)) (now (phase .entry)))) ⌝ }
-{
-    match found {
-        Crossing::At(_) => found,
-        Crossing::Missing => super::phase_crossing(omega, db, phase),
+        Crossing::Missing => super::crossing(which, omega, db, phase),
     }
 }
 
@@ -148,16 +125,18 @@ impl BodeSummary {
         let own_last = self.last;
         let read = omega.len() != 0;
         let both = self.read & read;
-        let first = reading_or_zero(omega, db, phase, 0);
-        let last = reading_or_zero(omega, db, phase, sweep::last_place(omega.len()));
-        let gain_before = sweep::or_else(kept_gain, gain_at(both, own_last, first));
-        let phase_before = sweep::or_else(kept_phase, phase_at(both, own_last, first));
+        let part_first = reading_or_zero(omega, db, phase, 0);
+        let part_last = reading_or_zero(omega, db, phase, sweep::last_place(omega.len()));
+        let gain_cut = crossing_at(Crossover::Gain, both, own_last, part_first);
+        let phase_cut = crossing_at(Crossover::Phase, both, own_last, part_first);
+        let gain_found = sweep::or_else(kept_gain, gain_cut);
+        let phase_found = sweep::or_else(kept_phase, phase_cut);
         BodeSummary {
             read: self.read | read,
-            first: either(self.read, self.first, first),
-            last: either(read, last, own_last),
-            gain: gain_from(gain_before, omega, db, phase),
-            phase: phase_from(phase_before, omega, db, phase),
+            first: either(self.read, self.first, part_first),
+            last: either(read, part_last, own_last),
+            gain: crossing_from(Crossover::Gain, gain_found, omega, db, phase),
+            phase: crossing_from(Crossover::Phase, phase_found, omega, db, phase),
         }
     }
 
@@ -181,21 +160,17 @@ impl BodeSummary {
         let own_phase = self.phase;
         let other_gain = other.gain;
         let other_phase = other.phase;
-        let both = self.read & other.read;
         let own_last = self.last;
         let other_first = other.first;
+        let both = self.read & other.read;
+        let gain_cut = crossing_at(Crossover::Gain, both, own_last, other_first);
+        let phase_cut = crossing_at(Crossover::Phase, both, own_last, other_first);
         BodeSummary {
             read: self.read | other.read,
             first: either(self.read, self.first, other_first),
             last: either(other.read, other.last, own_last),
-            gain: sweep::or_else(
-                sweep::or_else(own_gain, gain_at(both, own_last, other_first)),
-                other_gain,
-            ),
-            phase: sweep::or_else(
-                sweep::or_else(own_phase, phase_at(both, own_last, other_first)),
-                other_phase,
-            ),
+            gain: sweep::or_else(sweep::or_else(own_gain, gain_cut), other_gain),
+            phase: sweep::or_else(sweep::or_else(own_phase, phase_cut), other_phase),
         }
     }
 

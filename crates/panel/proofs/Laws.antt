@@ -12,14 +12,13 @@ use Rattle.sweep.specs.Answer.{crossingOutcome, scanned}
 use Rattle.sweep.specs.Scan.{scannedBy}
 use Rattle.sweep.specs.declared.Crossing.{Crossing}
 use Rattle.sweep.specs.declared.Crossing.the-variants.{At, Missing}
-use Rattle.bode.specs.Bode.{reading, gainCrossover, phaseCrossover}
+use Rattle.bode.specs.Bode.{reading, gainCrossover, phaseCrossover, crossoverOf}
 use Rattle.bode.specs.Readings.{omegas, dbs, phases}
+use Rattle.bode.specs.declared.Crossover.{Crossover}
+use Rattle.bode.specs.declared.Crossover.the-variants.{Gain, Phase}
 use Rattle.bode.specs.declared.Reading.{Reading}
 use Rattle.bode.proofs.Readings.{readings-back, lists-refused}
 use Rattle.panel.specs.Panel.{decoded, panelRefusal, panelOutcome, Replies}
-use Rattle.panel.specs.Asked.{crossoverOf}
-use Rattle.panel.specs.declared.Asked.{Asked}
-use Rattle.panel.specs.declared.Asked.the-variants.{Gain, Phase}
 use Rattle.panel.proofs.Decoded.{decoded-length}
 
 -- Whole readings, and room for the answer: what the scan of the three lists answers.
@@ -31,7 +30,7 @@ as-lists scan b answer h room =
     rw (lists-refused l, readings-back l, decoded-length b) (rw (eq-eqb (length b % 24) 0 h, le-ltb (length answer) 8 room))
 
 -- No bytes, no crossing.
-pub empty-none : (asked : Asked) (answer : List ℕ) → 8 ≤ length answer → panelOutcome (crossoverOf asked) [] answer ≡ none
+pub empty-none : (which : Crossover) (answer : List ℕ) → 8 ≤ length answer → panelOutcome (crossoverOf which) [] answer ≡ none
 unfolding panelOutcome panelRefusal decoded scanned upTo gainCrossover phaseCrossover crossingOutcome
 empty-none Gain answer room = rw (le-ltb (length answer) 8 room)
 empty-none Phase answer room = rw (le-ltb (length answer) 8 room)

@@ -15,10 +15,10 @@ use Rattle.laws.proofs.Signs.{same, either}
 use Rattle.scalar.proofs.Patterns.{ofBits-is}
 use Rattle.sweep.specs.Scan.{crossesBy}
 use Rattle.sweep.proofs.Sides.{beside, one-side}
-use Rattle.bode.specs.Bode.{f180}
-use Rattle.panel.specs.Asked.{soughtOf, liesOn, sideOf}
-use Rattle.panel.specs.declared.Asked.{Asked}
-use Rattle.panel.specs.declared.Asked.the-variants.{Gain, Phase}
+use Rattle.bode.specs.Bode.{f180, soughtOf}
+use Rattle.bode.specs.declared.Crossover.{Crossover}
+use Rattle.bode.specs.declared.Crossover.the-variants.{Gain, Phase}
+use Rattle.panel.specs.Scanning.{liesOn, sideOf}
 use Rattle.panel.specs.declared.Side.{Side}
 use Rattle.panel.specs.declared.Side.the-variants.{Above, Below, Neither}
 
@@ -64,8 +64,8 @@ below-beside n fits h =
 
 -- ---- of either
 
-pub one-side-quiet : (asked : Asked) (side : Side) (a b : ℕ) → a < 2 ^ 64 → b < 2 ^ 64 → liesOn asked side a ≡ true → liesOn asked side b ≡ true
-    → crossesBy (soughtOf asked) (ofBits binary64 a) (ofBits binary64 b) ≡ false
+pub one-side-quiet : (which : Crossover) (side : Side) (a b : ℕ) → a < 2 ^ 64 → b < 2 ^ 64 → liesOn which side a ≡ true → liesOn which side b ≡ true
+    → crossesBy (soughtOf which) (ofBits binary64 a) (ofBits binary64 b) ≡ false
 one-side-quiet Gain Above a b fa fb h k = sym (one-side false (ofBits binary64 a) (ofBits binary64 b) (above-beside a h) (above-beside b k))
 one-side-quiet Gain Below a b fa fb h k = sym (one-side true (ofBits binary64 a) (ofBits binary64 b) (below-beside a fa h) (below-beside b fb k))
 one-side-quiet Phase Above a b fa fb h k = rw (h, k)
@@ -74,15 +74,15 @@ one-side-quiet Gain Neither a b fa fb h k = absurd (true≢false (sym h))
 one-side-quiet Phase Neither a b fa fb h k = absurd (true≢false (sym h))
 
 -- where a value lies on the side of another, so does that one
-pub own-side : (asked : Asked) (a b : ℕ) → liesOn asked (sideOf asked a) b ≡ true → liesOn asked (sideOf asked a) a ≡ true
-own-side asked a b h = go (liesOn asked Above a) (liesOn asked Below a) refl refl h
+pub own-side : (which : Crossover) (a b : ℕ) → liesOn which (sideOf which a) b ≡ true → liesOn which (sideOf which a) a ≡ true
+own-side which a b h = go (liesOn which Above a) (liesOn which Below a) refl refl h
   where
-    nowhere : (asked : Asked) (n : ℕ) → liesOn asked Neither n ≡ false
+    nowhere : (which : Crossover) (n : ℕ) → liesOn which Neither n ≡ false
     nowhere Gain n = refl
     nowhere Phase n = refl
 
-    go : (above below : Bool) → liesOn asked Above a ≡ above → liesOn asked Below a ≡ below
-        → liesOn asked (cond above Above (cond below Below Neither)) b ≡ true → liesOn asked (cond above Above (cond below Below Neither)) a ≡ true
+    go : (above below : Bool) → liesOn which Above a ≡ above → liesOn which Below a ≡ below
+        → liesOn which (cond above Above (cond below Below Neither)) b ≡ true → liesOn which (cond above Above (cond below Below Neither)) a ≡ true
     go true below e f h = e
     go false true e f h = f
-    go false false e f h = absurd (true≢false (sym h ∙ nowhere asked b))
+    go false false e f h = absurd (true≢false (sym h ∙ nowhere which b))

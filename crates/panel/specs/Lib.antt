@@ -1,2 +1,2 @@
 pub mod Panel
-pub mod Asked
+pub mod Scanning

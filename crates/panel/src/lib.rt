@@ -5,31 +5,14 @@ ghost use Prim.Native.Nat.{_+_, _*_, _%_, _≤_};
 ghost use lib.ListN.{length};
 ghost use Rattle.sweep.specs.Refusal.{refusalOf};
 ghost use Rattle.sweep.specs.Answer.{crossingOutcome};
-ghost use Rattle.bode.specs.Bode.{gainCrossover, phaseCrossover};
+ghost use Rattle.bode.specs.Bode.{gainCrossover, phaseCrossover, crossoverOf};
 ghost use Rattle.panel.specs.Panel.{readingAt, decoded, panelRefusal, panelOutcome, Replies};
-ghost use Rattle.panel.specs.Asked.{crossoverOf, betweenOf, soughtOf, placeOf, liesOn, sideOf, firstOf, Scanning};
-ghost use Rattle.panel.specs.declared.Asked.the-variants.{Gain, Phase};
+ghost use Rattle.panel.specs.Scanning.{placeOf, liesOn, sideOf, firstOf, Scanning};
+use bode::Crossover;
 use bode::Reading;
 use sweep::Check;
 use sweep::Crossing;
 use sweep::FreqError;
-use sweep::Sought;
-
-// Which crossover is asked for.
-enum Asked {
-    Gain,
-    Phase,
-}
-
-// Where two readings that cross do so.
-fn between(asked: Asked, a: Reading, b: Reading) -> f64
-    ensures { λ r. ⌜ r ≡ betweenOf asked a b ⌝ }
-{
-    match asked {
-        Asked::Gain => bode::gain_between(a, b),
-        Asked::Phase => bode::phase_between(a, b),
-    }
-}
 
 // Reading i.
 fn reading_at(readings: &[u8], i: usize) -> Reading
@@ -44,23 +27,13 @@ fn reading_at(readings: &[u8], i: usize) -> Reading
     }
 }
 
-// What is sought between the values of two neighbours.
-fn sought(asked: Asked) -> Sought
-    ensures { λ r. ⌜ r ≡ soughtOf asked ⌝ }
-{
-    match asked {
-        Asked::Gain => Sought::Zero,
-        Asked::Phase => Sought::Level(-180.0),
-    }
-}
-
 // The place of the value that tells in the bytes of a reading.
-fn place(asked: Asked) -> usize
-    ensures { λ r. ⌜ r ≡ placeOf asked ⌝ }
+fn place(which: Crossover) -> usize
+    ensures { λ r. ⌜ r ≡ placeOf which ⌝ }
 {
-    match asked {
-        Asked::Gain => 8,
-        Asked::Phase => 16,
+    match which {
+        Crossover::Gain => 8,
+        Crossover::Phase => 16,
     }
 }
 
@@ -73,17 +46,17 @@ enum Side {
 
 // Whether a value lies on a side, by its bit pattern. Of 0 dB: a NaN, which crosses nothing, goes by its sign. Of -180
 // degrees: what is not above counts as below, a NaN too.
-fn lies(asked: Asked, side: Side, pattern: u64) -> bool
-    ensures { λ r. ⌜ r ≡ liesOn asked side pattern ⌝ }
+fn lies(which: Crossover, side: Side, pattern: u64) -> bool
+    ensures { λ r. ⌜ r ≡ liesOn which side pattern ⌝ }
 {
     let sign = 0x8000_0000_0000_0000;
-    match asked {
-        Asked::Gain => match side {
+    match which {
+        Crossover::Gain => match side {
             Side::Above => (0 < pattern) & (pattern < sign),
             Side::Below => sign < pattern,
             Side::Neither => false,
         },
-        Asked::Phase => match side {
+        Crossover::Phase => match side {
             Side::Above => wire::f64_from_bits(pattern) > -180.0,
             Side::Below => !(wire::f64_from_bits(pattern) > -180.0),
             Side::Neither => false,
@@ -92,13 +65,13 @@ fn lies(asked: Asked, side: Side, pattern: u64) -> bool
 }
 
 // The side on which a value lies.
-fn side_of(asked: Asked, pattern: u64) -> Side
-    ensures { λ r. ⌜ r ≡ sideOf asked pattern ⌝ }
+fn side_of(which: Crossover, pattern: u64) -> Side
+    ensures { λ r. ⌜ r ≡ sideOf which pattern ⌝ }
 {
-    if lies(asked, Side::Above, pattern) {
+    if lies(which, Side::Above, pattern) {
         return Side::Above;
     }
-    if lies(asked, Side::Below, pattern) {
+    if lies(which, Side::Below, pattern) {
         return Side::Below;
     }
     Side::Neither
@@ -106,15 +79,15 @@ fn side_of(asked: Asked, pattern: u64) -> Side
 
 // The last of the readings from `from` on that lie on its side. The loop's test is the one that `u64_at` makes, so that
 // it is made once for each value.
-fn end_of_run(asked: Asked, readings: &[u8], from: usize) -> usize
-    requires { ⌜ Scanning asked (now readings) from ⌝ }
-    ensures { λ r. ⌜ (from ≤ r) × Scanning asked (now (readings .entry)) r ⌝ }
+fn end_of_run(which: Crossover, readings: &[u8], from: usize) -> usize
+    requires { ⌜ Scanning which (now readings) from ⌝ }
+    ensures { λ r. ⌜ (from ≤ r) × Scanning which (now (readings .entry)) r ⌝ }
 {
     let last = readings.len() - 8;
-    let side = side_of(asked, wire::u64_at(readings, from));
+    let side = side_of(which, wire::u64_at(readings, from));
     let mut at = from;
     while at + 24 <= last {
-        if !lies(asked, side, wire::u64_at(readings, at + 24)) {
+        if !lies(which, side, wire::u64_at(readings, at + 24)) {
             return at;
         }
         at += 24;
@@ -123,37 +96,37 @@ fn end_of_run(asked: Asked, readings: &[u8], from: usize) -> usize
 }
 
 // The first reading that crosses with the one behind it: the last reading where none does.
-fn first_of(asked: Asked, readings: &[u8]) -> usize
+fn first_of(which: Crossover, readings: &[u8]) -> usize
     requires { ⌜ length (now readings) % 24 ≡ 0 ⌝ }
-    ensures { λ r. ⌜ r ≡ firstOf asked (now (readings .entry)) ⌝ }
+    ensures { λ r. ⌜ r ≡ firstOf which (now (readings .entry)) ⌝ }
 {
     let n = readings.len();
     if n < 48 {
         return 0;
     }
     let last = n - 8;
-    let mut at = end_of_run(asked, readings, place(asked));
+    let mut at = end_of_run(which, readings, place(which));
     while at + 24 <= last {
         let a = wire::f64_at(readings, at);
         let b = wire::f64_at(readings, at + 24);
-        if sweep::crosses(sought(asked), a, b) {
+        if sweep::crosses(bode::sought(which), a, b) {
             return at / 24;
         }
-        at = end_of_run(asked, readings, at + 24);
+        at = end_of_run(which, readings, at + 24);
     }
     at / 24
 }
 
 // The first crossing.
-fn crossing(asked: Asked, readings: &[u8]) -> Crossing
+fn crossing(which: Crossover, readings: &[u8]) -> Crossing
     requires { ⌜ length (now readings) % 24 ≡ 0 ⌝ }
-    ensures { λ r. ⌜ r ≡ crossoverOf asked (decoded (now (readings .entry))) ⌝ }
+    ensures { λ r. ⌜ r ≡ crossoverOf which (decoded (now (readings .entry))) ⌝ }
 {
-    let i = first_of(asked, readings);
+    let i = first_of(which, readings);
     if sweep::has_pair(i, readings.len() / 24) {
         let a = reading_at(readings, i);
         let b = reading_at(readings, i + 1);
-        return Crossing::At(between(asked, a, b));
+        return Crossing::At(bode::between(which, a, b));
     }
     Crossing::Missing
 }
@@ -188,12 +161,12 @@ fn put(crossing: Crossing, answer: &mut [u8]) -> u32
     }
 }
 
-fn reply(asked: Asked, readings: &[u8], answer: &mut [u8]) -> u32
-    ensures { λ r. ⌜ Replies (panelOutcome (crossoverOf asked) (now (readings .entry)) (now (answer .entry))) r (now (answer .entry)) (now (answer .exit)) ⌝ }
+fn reply(which: Crossover, readings: &[u8], answer: &mut [u8]) -> u32
+    ensures { λ r. ⌜ Replies (panelOutcome (crossoverOf which) (now (readings .entry)) (now (answer .entry))) r (now (answer .entry)) (now (answer .exit)) ⌝ }
 {
     match check_panel(readings.len(), answer.len()) {
         Check::Refused(e) => e.number(),
-        Check::Passed => put(crossing(asked, readings), answer),
+        Check::Passed => put(crossing(which, readings), answer),
     }
 }
 
@@ -202,7 +175,7 @@ fn reply(asked: Asked, readings: &[u8], answer: &mut [u8]) -> u32
 pub extern "C" fn bazintroa_panel_gain_crossover(readings: &[u8], answer: &mut [u8]) -> u32
     ensures { λ r. ⌜ Replies (panelOutcome gainCrossover (now (readings .entry)) (now (answer .entry))) r (now (answer .entry)) (now (answer .exit)) ⌝ }
 {
-    reply(Asked::Gain, readings, answer)
+    reply(Crossover::Gain, readings, answer)
 }
 
 // The phase crossover of readings in bytes.
@@ -210,5 +183,5 @@ pub extern "C" fn bazintroa_panel_gain_crossover(readings: &[u8], answer: &mut [
 pub extern "C" fn bazintroa_panel_phase_crossover(readings: &[u8], answer: &mut [u8]) -> u32
     ensures { λ r. ⌜ Replies (panelOutcome phaseCrossover (now (readings .entry)) (now (answer .entry))) r (now (answer .entry)) (now (answer .exit)) ⌝ }
 {
-    reply(Asked::Phase, readings, answer)
+    reply(Crossover::Phase, readings, answer)
 }

@@ -11,7 +11,7 @@ returns c = scan-refused (c .before .before .before .check-scan .ensures) _ (c .
 returns-2 : tie.Need-returns-2
 returns-2 c =
     scan-passed (c .before .before .before .before .before .before .check-scan .ensures) _ (c .before .before .before .before .enum-told .given .1)
-    (c .found .ensures ∙ ap crossingOutcome (c .before .gain-pair .ensures))
+    (c .found .ensures ∙ ap crossingOutcome (c .before .pair .ensures))
 
 pub gain-scanned-spec : {M : Type 1} → statement M
 gain-scanned-spec =

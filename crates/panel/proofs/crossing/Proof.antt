@@ -15,13 +15,13 @@ returns : tie.Need-returns
 returns c =
     let then = c .before .before .before in
     let start = then .before .before .before .before in
-    crossing-found (start .args .asked) (start .args .readings .now) (then .before .before .first-of .ensures) (pair then)
+    crossing-found (start .args .which) (start .args .readings .now) (then .before .before .first-of .ensures) (pair then)
     (rw (← c .before .before .reading-at .ensures, ← c .before .reading-at2 .ensures) (c .between .ensures))
 
 returns-2 : tie.Need-returns-2
 returns-2 c =
     let start = c .before .before .before .before in
-    crossing-missing (start .args .asked) (start .args .readings .now) (c .before .before .first-of .ensures) (ltb-false _ _ (sym (c .before .has-pair .ensures) ∙ c .if1 .left))
+    crossing-missing (start .args .which) (start .args .readings .now) (c .before .before .first-of .ensures) (ltb-false _ _ (sym (c .before .has-pair .ensures) ∙ c .if1 .left))
 
 pub crossing-spec : {M : Type 1} → statement M
 crossing-spec =

@@ -3,16 +3,16 @@ use mathlib.Core.Path.{sym, _∙_}
 use native.Mathlib.Omega.{arith}
 use borrow.Author.Needs.{needs}
 use borrow.Author.Tests.{not-false}
-use Rattle.panel.specs.Asked.{Scanning}
+use Rattle.panel.specs.Scanning.{Scanning}
 use Rattle.panel.proofs.Scanning.{Aside, aside, scan-on}
 use Rattle.panel.proofs.end_of_run.Statement.{statement}
 use Rattle.panel.proofs.end_of_run.Tie as tie
 
 abbrev Inv-loop : tie.InvT-loop
-Inv-loop asked readings from last side at₀ at = (from ≤ at) × Scanning asked readings at × Aside asked side readings at
+Inv-loop which readings from last side at₀ at = (from ≤ at) × Scanning which readings at × Aside which side readings at
 
 abbrev μ-loop : tie.MeasureT-loop
-μ-loop asked readings from last side at₀ at = last - at
+μ-loop which readings from last side at₀ at = last - at
 
 sub-last : tie.Need-sub-last Inv-loop μ-loop
 sub-last c = let there = c .before .pre .there in omega arith

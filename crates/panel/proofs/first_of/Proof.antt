@@ -2,16 +2,16 @@ use Prim.Native.Nat.{_-_}
 use mathlib.Core.Path.{sym, _∙_}
 use native.Mathlib.Omega.{arith}
 use borrow.Author.Needs.{needs}
-use Rattle.panel.specs.Asked.{Scanning}
+use Rattle.panel.specs.Scanning.{Scanning}
 use Rattle.panel.proofs.Scanning.{few, scanning, scan-hit, scan-next, scan-end}
 use Rattle.panel.proofs.first_of.Statement.{statement}
 use Rattle.panel.proofs.first_of.Tie as tie
 
 abbrev Inv-loop : tie.InvT-loop
-Inv-loop asked readings n last at₀ at = Scanning asked readings at
+Inv-loop which readings n last at₀ at = Scanning which readings at
 
 abbrev μ-loop : tie.MeasureT-loop
-μ-loop asked readings n last at₀ at = n - at
+μ-loop which readings n last at₀ at = n - at
 
 returns : tie.Need-returns Inv-loop μ-loop
 returns c = few _ _ (search needs)

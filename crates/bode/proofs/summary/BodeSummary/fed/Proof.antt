@@ -5,28 +5,28 @@ use Rattle.bode.specs.Summary.{summaryOf, behind, fedBy}
 use Rattle.bode.proofs.summary.BodeSummary.fed.Statement.{statement}
 use Rattle.bode.proofs.summary.BodeSummary.fed.Tie as tie
 
-gain-from-requires : tie.Need-gain-from-requires
-gain-from-requires c κs = c .before .before .before .before .before .before .before .before .before .before .before .before .before .before .before .pre
+crossing-from-requires : tie.Need-crossing-from-requires
+crossing-from-requires c κs = c .before .before .before .before .before .before .before .before .before .before .before .before .before .before .before .pre
 
 returns : tie.Need-returns
 unfolding fedBy behind summaryOf
 returns c =
-    let phase = c .before .before .before .before .before in
-    let gain = phase .before .before in
-    let ends = gain .before .before in
-    let start = ends .before .before .before .before .before .before .before .before in
+    let found = c .before .before .before .before .before in
+    let cut = found .before .before in
+    let part = cut .before .before in
+    let start = part .before .before .before .before .before .before .before .before in
     simp (
-      c .phase-from .ensures,
-      c .before .gain-from .ensures,
+      c .crossing-from2 .ensures,
+      c .before .crossing-from .ensures,
       c .before .before .either2 .ensures,
       c .before .before .before .either .ensures,
-      phase .or-else2 .ensures,
-      phase .before .phase-at .ensures,
-      gain .or-else .ensures,
-      gain .before .gain-at .ensures,
-      ends .reading-or-zero2 .ensures,
-      ends .before .last-place .ensures,
-      ends .before .before .reading-or-zero .ensures,
+      found .or-else2 .ensures,
+      found .before .or-else .ensures,
+      cut .crossing-at2 .ensures,
+      cut .before .crossing-at .ensures,
+      part .reading-or-zero2 .ensures,
+      part .before .last-place .ensures,
+      part .before .before .reading-or-zero .ensures,
       ← zip3-some reading _ _ _ (start .pre),
       zip3-same reading _ _ _ (start .pre),
     )
@@ -44,6 +44,6 @@ fed-spec =
     (λ c κs. search needs)
     (λ c κs. search needs)
     (λ c κs. search needs)
-    gain-from-requires
-    (λ c κs. gain-from-requires (c .before) κs)
+    crossing-from-requires
+    (λ c κs. crossing-from-requires (c .before) κs)
     returns)

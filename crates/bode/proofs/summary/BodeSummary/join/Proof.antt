@@ -6,17 +6,17 @@ use Rattle.bode.proofs.summary.BodeSummary.join.Tie as tie
 returns : tie.Need-returns
 unfolding joinOf behind
 returns c =
-    let gain = c .before .before .before in
-    let ends = gain .before .before .before in
+    let ends = c .before .before .before .before in
+    let cut = ends .before .before .before .before in
     simp (
       c .or-else4 .ensures,
       c .before .or-else3 .ensures,
-      c .before .before .phase-at .ensures,
-      gain .or-else2 .ensures,
-      gain .before .or-else .ensures,
-      gain .before .before .gain-at .ensures,
+      c .before .before .or-else2 .ensures,
+      c .before .before .before .or-else .ensures,
       ends .either2 .ensures,
       ends .before .either .ensures,
+      cut .crossing-at2 .ensures,
+      cut .before .crossing-at .ensures,
     )
 
 pub join-spec : {M : Type 1} → statement M
