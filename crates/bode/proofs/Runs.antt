@@ -6,7 +6,7 @@
 -- generated `Learnt` of `empty`, `feed` and `join` is what a caller learns of a call, whatever it returned.
 -- The claim is `demand-3`: whatever summary the calls leave, and whatever the two answers then return, `Claim c s` holds. `run-reached` says that every
 -- list of calls leaves a summary. Assumes nothing.
-use mathlib.Core.Path.{_≡_, refl, sym, _∙_, ap}
+use mathlib.Core.Path.{_≡_, refl, sym, _∙_}
 use mathlib.Core.Bool.{false}
 use mathlib.Core.List.{[], _∷_}
 use Rattle.laws.specs.Outcome.{none}
@@ -17,13 +17,13 @@ use Rattle.sweep.specs.declared.Crossing.{Crossing}
 use Rattle.sweep.proofs.Conditions.{lists-checked}
 use Rattle.sweep.proofs.Runs.{whole, result-says, fed-lists, ran-reached}
 use Rattle.bode.specs.Bode.{gainCrosses, phaseCrosses, gainCrossover, phaseCrossover}
-use Rattle.bode.specs.Summary.{summaryOf, fedBy, joinOf, numberOfFed, leftBy, gainAnswer, phaseAnswer, Part, partRefusal, partReadings, bookOf}
+use Rattle.bode.specs.Summary.{summaryOf, fedBy, joinOf, numberOfFed, leftBy, Part, partRefusal, partReadings, bookOf}
 use Rattle.bode.specs.declared.Crossover.the-variants.{Gain, Phase}
 use Rattle.bode.specs.declared.Reading.{Reading}
 use Rattle.bode.specs.declared.summary.BodeSummary.{BodeSummary}
 use Rattle.bode.specs.declared.summary.BodeFed.the-variants.{Taken, Refused}
 use Rattle.bode.proofs.Laws.{no-crossover-in, none-of-crossover}
-use Rattle.bode.proofs.Joins.{fed-append, join-append, gain-answer, phase-answer}
+use Rattle.bode.proofs.Joins.{fed-append, join-append, answer-is}
 use Rattle.bode.proofs.summary.BodeSummary.empty.Reads as empty-reads
 use Rattle.bode.proofs.summary.BodeSummary.feed.Reads as feed-reads
 use Rattle.bode.proofs.summary.BodeSummary.join.Reads as join-reads
@@ -88,10 +88,10 @@ demand-3 c s h =
     }
   where
     gain-is : (r : Crossing) → GainOf s r → crossingOutcome r ≡ crossingOutcome (gainCrossover (bookOf c))
-    gain-is r g = g .learnt ∙ ap gainAnswer (summary-of-book h) ∙ gain-answer (bookOf c) (mark c)
+    gain-is r g = rw (summary-of-book h, answer-is Gain) at (g .learnt)
 
     phase-is : (r : Crossing) → PhaseOf s r → crossingOutcome r ≡ crossingOutcome (phaseCrossover (bookOf c))
-    phase-is r g = g .learnt ∙ ap phaseAnswer (summary-of-book h) ∙ phase-answer (bookOf c) (mark c)
+    phase-is r g = rw (summary-of-book h, answer-is Phase) at (g .learnt)
 
 -- ---- the claim is of something: every list of calls leaves a summary
 

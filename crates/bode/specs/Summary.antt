@@ -11,6 +11,8 @@ use Rattle.sweep.specs.Refusal.{numberOf, listsRefusal}
 use Rattle.sweep.specs.Runs.{Calls, book, isTaken}
 use Rattle.sweep.specs.Scan.{orElse, notEmpty, crossingAt}
 use Rattle.bode.specs.Bode.{reading, readings, gainPair, phasePair, gainCrossover, phaseCrossover}
+use Rattle.bode.specs.declared.Crossover.{Crossover}
+use Rattle.bode.specs.declared.Crossover.the-variants.{Gain, Phase}
 use Rattle.bode.specs.declared.Reading.{Reading}
 use Rattle.bode.specs.declared.summary.BodeSummary.{BodeSummary}
 use Rattle.bode.specs.declared.summary.BodeFed.{BodeFed}
@@ -71,6 +73,10 @@ gainAnswer s = crossingOutcome (s .gain)
 
 unfoldable pub phaseAnswer : BodeSummary → Outcome
 phaseAnswer s = crossingOutcome (s .phase)
+
+abbrev pub answerOf : Crossover → BodeSummary → Outcome
+answerOf Gain = gainAnswer
+answerOf Phase = phaseAnswer
 
 -- ---- the book of a run of calls
 

@@ -12,8 +12,9 @@ use Rattle.sweep.proofs.Plain.{whole-plain}
 use Rattle.bode.specs.Bode.{gainCrossover, phaseCrossover}
 use Rattle.bode.specs.Summary.{summaryOf, fedBy, joinOf, Part, partRefusal, partReadings, bookOf}
 use Rattle.bode.specs.Plain.{plainOf, fromPlain}
+use Rattle.bode.specs.declared.Crossover.the-variants.{Gain, Phase}
 use Rattle.bode.specs.declared.summary.BodePlain.{BodePlain}
-use Rattle.bode.proofs.Joins.{fed-append, join-append, gain-answer, phase-answer}
+use Rattle.bode.proofs.Joins.{fed-append, join-append, answer-is}
 use Rattle.bode.proofs.Plain.{plain-back}
 use Rattle.laws.specs.Outcome.{Answers}
 use Rattle.c_summaries.specs.Fed.{fedBode}
@@ -65,15 +66,11 @@ plain-of-book r =
     whole-plain summaryOf fedBy joinOf fed-append join-append plainOf fromPlain plain-back partRefusal partReadings
     (λ p h. h .learnt) (λ l m x q h. h .after ∙ ap (λ (f : BodePlainFed). f .summary) (h .call .learnt)) (λ p q r h. h .learnt) r
 
--- what the numbers hold
-of-book : {c : Calls Part} {p : BodePlain} → Reaches c p → fromPlain p ≡ summaryOf (bookOf c) (mark c)
-of-book r = ap fromPlain (plain-of-book r) ∙ plain-back _
-
 pub demand-3 : (c : Calls Part) (p : BodePlain) → Reaches c p → Host c p
 demand-3 c p h =
     record {
-      gain = λ g. rw (of-book h, gain-answer (bookOf c) (mark c)) at (g .learnt);
-      phase = λ g. rw (of-book h, phase-answer (bookOf c) (mark c)) at (g .learnt);
+      gain = λ g. rw (plain-of-book h, plain-back, answer-is Gain) at (g .learnt);
+      phase = λ g. rw (plain-of-book h, plain-back, answer-is Phase) at (g .learnt);
     }
 
 -- ---- the claim is of something: every list of calls leaves plain numbers

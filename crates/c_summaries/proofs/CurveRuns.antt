@@ -8,7 +8,7 @@ use Rattle.sweep.specs.Runs.{Calls, mark, Reached, runOf, Returned, FedLists}
 use Rattle.sweep.proofs.Runs.{fed-lists, ran-reached}
 use Rattle.sweep.proofs.Plain.{whole-plain}
 use Rattle.nyquist.specs.Curve.{distanceOf}
-use Rattle.nyquist.specs.Summary.{summaryOf, fedBy, joinOf, approachAnswer, Part, partRefusal, partPoints, bookOf}
+use Rattle.nyquist.specs.Summary.{summaryOf, fedBy, joinOf, Part, partRefusal, partPoints, bookOf}
 use Rattle.nyquist.specs.Plain.{plainOf, fromPlain}
 use Rattle.nyquist.specs.declared.summary.CurvePlain.{CurvePlain}
 use Rattle.nyquist.proofs.Joins.{fed-append, join-append, approach-answer}
@@ -56,12 +56,8 @@ plain-of-book r =
     whole-plain summaryOf fedBy joinOf fed-append join-append plainOf fromPlain plain-back partRefusal partPoints
     (λ p h. h .learnt) (λ l m x q h. h .after ∙ ap (λ (f : CurvePlainFed). f .summary) (h .call .learnt)) (λ p q r h. h .learnt) r
 
--- what the numbers hold
-of-book : {c : Calls Part} {p : CurvePlain} → Reaches c p → fromPlain p ≡ summaryOf (bookOf c) (mark c)
-of-book r = ap fromPlain (plain-of-book r) ∙ plain-back _
-
 pub demand-3 : (c : Calls Part) (p : CurvePlain) → Reaches c p → Host c p
-demand-3 c p h = record { approach = λ g. g .learnt ∙ ap approachAnswer (of-book h) ∙ approach-answer (bookOf c) (mark c) }
+demand-3 c p h = record { approach = λ g. rw (plain-of-book h, plain-back, approach-answer) at (g .learnt) }
 
 -- ---- the claim is of something: every list of calls leaves plain numbers
 

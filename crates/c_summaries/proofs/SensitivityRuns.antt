@@ -65,15 +65,11 @@ plain-of-book r =
     whole-plain summaryOf fedBy joinOf fed-append join-append plainOf fromPlain plain-back partRefusal partReadings
     (λ p h. h .learnt) (λ l m x q h. h .after ∙ ap (λ (f : SensitivityPlainFed). f .summary) (h .call .learnt)) (λ p q r h. h .learnt) r
 
--- what the numbers hold
-of-book : {c : Calls Part} {p : SensitivityPlain} → Reaches c p → fromPlain p ≡ summaryOf (bookOf c) (mark c)
-of-book r = ap fromPlain (plain-of-book r) ∙ plain-back _
-
 pub demand-3 : (c : Calls Part) (p : SensitivityPlain) → Reaches c p → Host c p
 demand-3 c p h =
     record {
-      crossover = λ g. rw (of-book h, crossover-answer (bookOf c) (mark c)) at (g .learnt);
-      bandwidth = λ g. rw (of-book h, bandwidth-answer (bookOf c) (mark c)) at (g .learnt);
+      crossover = λ g. rw (plain-of-book h, plain-back, crossover-answer) at (g .learnt);
+      bandwidth = λ g. rw (plain-of-book h, plain-back, bandwidth-answer) at (g .learnt);
     }
 
 -- ---- the claim is of something: every list of calls leaves plain numbers

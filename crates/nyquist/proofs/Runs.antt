@@ -6,7 +6,7 @@
 -- generated `Learnt` of `empty`, `feed` and `join` is what a caller learns of a call, whatever it returned.
 -- The claim is `demand-3`: whatever summary the calls leave, and whatever the answer then returns, `Claim c s` holds. `run-reached` says that every
 -- list of calls leaves a summary. Assumes nothing.
-use mathlib.Core.Path.{_≡_, refl, sym, _∙_, ap}
+use mathlib.Core.Path.{_≡_, refl, sym, _∙_}
 use mathlib.Core.Bool.{false}
 use mathlib.Core.List.{List, [], _∷_}
 use lib.Ieee.{Float}
@@ -14,7 +14,7 @@ use Rattle.sweep.specs.Runs.{Calls, mark, Reached, leftAfter, runOf, Returned, 
 use Rattle.sweep.proofs.Conditions.{Checked, scan-checked}
 use Rattle.sweep.proofs.Runs.{whole, result-says, fed-lists, ran-reached}
 use Rattle.nyquist.specs.Curve.{distanceOf, curveRefusal}
-use Rattle.nyquist.specs.Summary.{summaryOf, fedBy, joinOf, approachAnswer, numberOfFed, leftBy, Part, partRefusal, partPoints, bookOf}
+use Rattle.nyquist.specs.Summary.{summaryOf, fedBy, joinOf, numberOfFed, leftBy, Part, partRefusal, partPoints, bookOf}
 use Rattle.nyquist.specs.declared.summary.CurveSummary.{CurveSummary}
 use Rattle.nyquist.specs.declared.summary.CurveFed.the-variants.{Taken, Refused}
 use Rattle.nyquist.proofs.Joins.{fed-append, join-append, approach-answer}
@@ -60,7 +60,7 @@ summary-of-book r =
     (λ s h. h .learnt) (λ l m p t h. h .after ∙ h .call .learnt .1) (λ s t u h. h .learnt) r
 
 pub demand-3 : (c : Calls Part) (s : CurveSummary) → Reaches c s → Claim c s
-demand-3 c s h = record { approach = λ r g. g .learnt ∙ ap approachAnswer (summary-of-book h) ∙ approach-answer (bookOf c) (mark c) }
+demand-3 c s h = record { approach = λ r g. rw (summary-of-book h, approach-answer) at (g .learnt) }
 
 -- ---- the claim is of something: every list of calls leaves a summary
 

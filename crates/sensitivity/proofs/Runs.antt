@@ -6,7 +6,7 @@
 -- generated `Learnt` of `empty`, `feed` and `join` is what a caller learns of a call, whatever it returned.
 -- The claim is `demand-3`: whatever summary the calls leave, and whatever the two answers then return, `Claim c s` holds. `run-reached` says that every
 -- list of calls leaves a summary. Assumes nothing.
-use mathlib.Core.Path.{_≡_, refl, sym, _∙_, ap}
+use mathlib.Core.Path.{_≡_, refl, sym, _∙_}
 use mathlib.Core.Bool.{Bool, true, false}
 use mathlib.Core.List.{List, [], _∷_}
 use native.Mathlib.Omega.{arith}
@@ -21,7 +21,7 @@ use Rattle.sweep.proofs.Conditions.{lists-checked}
 use Rattle.sweep.proofs.Scans.{crossing-kept}
 use Rattle.sweep.proofs.Runs.{whole, result-says, fed-lists, ran-reached}
 use Rattle.sensitivity.specs.Scans.{equalCrosses, sensitivityCrossover, levelOf, drops, bandwidthOf}
-use Rattle.sensitivity.specs.Summary.{summaryOf, fedBy, joinOf, numberOfFed, leftBy, crossoverAnswer, bandwidthAnswer, bandwidthOutcome, Part, partRefusal, partReadings, bookOf}
+use Rattle.sensitivity.specs.Summary.{summaryOf, fedBy, joinOf, numberOfFed, leftBy, bandwidthOutcome, Part, partRefusal, partReadings, bookOf}
 use Rattle.sensitivity.specs.declared.Reading.{Reading}
 use Rattle.sensitivity.specs.declared.summary.SensitivitySummary.{SensitivitySummary}
 use Rattle.sensitivity.specs.declared.summary.SensitivityFed.the-variants.{Taken, Refused}
@@ -114,10 +114,10 @@ demand-3 c s h =
     }
   where
     crossover-is : (r : Crossing) → CrossoverOf s r → crossingOutcome r ≡ crossingOutcome (sensitivityCrossover (bookOf c))
-    crossover-is r g = g .learnt ∙ ap crossoverAnswer (summary-of-book h) ∙ crossover-answer (bookOf c) (mark c)
+    crossover-is r g = rw (summary-of-book h, crossover-answer) at (g .learnt)
 
     bandwidth-is : (r : Kept) → BandwidthOf s r → keptOutcome r ≡ bandwidthOutcome (mark c) (bookOf c)
-    bandwidth-is r g = g .learnt ∙ ap bandwidthAnswer (summary-of-book h) ∙ bandwidth-answer (bookOf c) (mark c)
+    bandwidth-is r g = rw (summary-of-book h, bandwidth-answer) at (g .learnt)
 
 -- ---- the claim is of something: every list of calls leaves a summary
 
