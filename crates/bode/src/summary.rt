@@ -16,13 +16,13 @@ use sweep::Check;
 use sweep::Crossing;
 use sweep::FreqError;
 
-// Whether there are readings, the first and the last of them, and the first crossing of 0 dB and of -180 degrees.
+// The first and the last reading, the first crossing of 0 dB and of -180 degrees, and whether there are readings.
 pub struct BodeSummary {
-    read: bool,
     first: Reading,
     last: Reading,
     gain: Crossing,
     phase: Crossing,
+    read: bool,
 }
 
 // The summary as plain numbers, for a host to keep between calls. A mark that is 0 says that there is nothing, and what
@@ -66,11 +66,15 @@ fn reading_or_zero(omega: &[f64], db: &[f64], phase: &[f64], i: usize) -> Readin
     zero_reading()
 }
 
-// The one reading or the other.
+// The one reading or the other, value by value: the compiler then copies no structs.
 fn either(test: bool, a: Reading, b: Reading) -> Reading
     ensures { λ r. ⌜ r ≡ cond test a b ⌝ }
 {
-    if test { a } else { b }
+    Reading {
+        omega: sweep::either(test, a.omega, b.omega),
+        db: sweep::either(test, a.db, b.db),
+        phase: sweep::either(test, a.phase, b.phase),
+    }
 }
 
 // The crossing where one sweep goes over into another: a is the last reading of the one and b the first of the other,

@@ -17,13 +17,13 @@ use sweep::FreqError;
 use sweep::Kept;
 use sweep::Sought;
 
-// Whether there are readings, the first and the last of them, the first crossing of S and T, and the bandwidth.
+// The first and the last reading, the first crossing of S and T, the bandwidth, and whether there are readings.
 pub struct SensitivitySummary {
-    read: bool,
     first: Reading,
     last: Reading,
     crossover: Crossing,
     bandwidth: Kept,
+    read: bool,
 }
 
 // The summary as plain numbers, for a host to keep between calls. A mark that is 0 says that there is nothing, and what
@@ -45,11 +45,15 @@ pub enum SensitivityFed {
     Refused(FreqError),
 }
 
-// The one reading or the other.
+// The one reading or the other, value by value: the compiler then copies no structs.
 fn either(test: bool, a: Reading, b: Reading) -> Reading
     ensures { λ r. ⌜ r ≡ cond test a b ⌝ }
 {
-    if test { a } else { b }
+    Reading {
+        omega: sweep::either(test, a.omega, b.omega),
+        s: sweep::either(test, a.s, b.s),
+        t: sweep::either(test, a.t, b.t),
+    }
 }
 
 // The crossing of S and T between two neighbours.

@@ -1,6 +1,7 @@
 // What the entries share: the reasons for turning a call away, each with the number that document 01 gives it; what scans
 // and grids answer, also as plain numbers for a host; the first crossing among neighbours; interpolation.
 ghost use mathlib.Core.Path.{_≡_};
+ghost use mathlib.Core.Bool.{cond};
 ghost use Prim.Native.Nat.{_+_, _-_};
 ghost use lib.Dec.{ltb};
 ghost use Rattle.sweep.specs.Refusal.{numberOf, refusalOf, scanRefusal, listsRefusal, gridRefusal};
@@ -263,6 +264,13 @@ pub fn first_index(sought: Sought, values: &[f64]) -> usize
         i += 1;
     }
     i
+}
+
+// The one value or the other.
+pub fn either(test: bool, a: f64, b: f64) -> f64
+    ensures { λ r. ⌜ r ≡ cond test a b ⌝ }
+{
+    if test { a } else { b }
 }
 
 // The last place of a list of n, and 0 where it is empty.
