@@ -38,7 +38,7 @@ abbrev pub notEmpty : {R : Type 0} → List R → Bool
 notEmpty [] = false
 notEmpty (x ∷ l) = true
 
--- The crossing where one list goes over into another: a is the last reading of the first, b the first of the second, and both say whether each has readings.
+-- The crossing where one list goes over into another: a is the last reading of the first, b the first of the second, and `both` says whether each has readings.
 abbrev pub crossingAt : {R : Type 0} → (R → R → Crossing) → Bool → R → R → Crossing
 crossingAt p both a b = cond both (p a b) Missing
 
