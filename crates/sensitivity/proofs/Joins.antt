@@ -12,10 +12,9 @@ use Rattle.sweep.specs.declared.Crossing.{Crossing}
 use Rattle.sweep.specs.declared.Kept.the-variants.{NotKept}
 use Rattle.sweep.proofs.Scans.{orElse-assoc, kept-outcome, kept-or, some-append, first-behind, last-behind, crossing-behind}
 use Rattle.sweep.proofs.Runs.{join-assoc, neutral-before, neutral-behind, fed-uncut, joined-uncut}
-use Rattle.sensitivity.specs.Scans.{zeroReading, equalPair, dropPair, levelBy, levelOf, sensitivityCrossover, bandwidthOf}
+use Rattle.sensitivity.specs.Scans.{zeroReading, equalPair, dropPair, levelOf, sensitivityCrossover, bandwidthOf}
 use Rattle.sensitivity.specs.Summary.{bandwidthUnder, summaryOf, joinOf, dropBehind, fedBy, crossoverAnswer, bandwidthAnswer, bandwidthOutcome}
 use Rattle.sensitivity.specs.declared.Reading.{Reading}
-use Rattle.sensitivity.specs.declared.summary.SensitivitySummary.{SensitivitySummary}
 
 -- ---- the bandwidth of one list behind another
 

@@ -1,6 +1,5 @@
 use Prim.Native.Nat.{_≤_, _-_}
-use mathlib.Core.Path.{_≡_, refl, _∙_}
-use native.Mathlib.Omega.{arith}
+use mathlib.Core.Path.{_≡_}
 use borrow.Author.Needs.{needs}
 use lib.ListN.{length, drop}
 use Rattle.vectors.proofs.Made.{none-made, made-whole, made-cut, behind-more}
