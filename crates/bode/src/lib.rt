@@ -104,8 +104,7 @@ fn value_at(x: f64, w0: f64, w1: f64, v0: f64, v1: f64) -> f64
     v0 + t * (v1 - v0)
 }
 
-// The place of the first reading that crosses with the one behind it: the last place where none does. Each arm has a
-// search of its own, for speed.
+// The place of the first reading that crosses with the one behind it: the last place where none does.
 fn place_of(which: Crossover, db: &[f64], phase: &[f64]) -> usize
     ensures { λ r. ⌜ r ≡ firstIndex (soughtOf which) (valuesOf which (now (db .entry)) (now (phase .entry))) ⌝ }
 {

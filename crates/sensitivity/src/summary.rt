@@ -80,7 +80,8 @@ fn drop_pair(level: f64, a: Reading, b: Reading) -> Crossing
     Crossing::Missing
 }
 
-// The crossing where one sweep goes over into another: a is the last reading of the one and b the first of the other.
+// The crossing where one sweep goes over into another: a is the last reading of the one and b the first of the other,
+// if both have readings.
 fn equal_at(both: bool, a: Reading, b: Reading) -> Crossing
     ensures { λ r. ⌜ r ≡ crossingAt equalPair both a b ⌝ }
 {
@@ -90,6 +91,7 @@ fn equal_at(both: bool, a: Reading, b: Reading) -> Crossing
     Crossing::Missing
 }
 
+// The same of a drop below a level.
 fn drop_at(level: f64, both: bool, a: Reading, b: Reading) -> Crossing
     ensures { λ r. ⌜ r ≡ crossingAt (dropPair level) both a b ⌝ }
 {
