@@ -15,9 +15,9 @@ use Rattle.sweep.specs.Runs.{Calls, mark, Reached, leftAfter, runOf, Returned, 
 use Rattle.sweep.specs.Scan.{Neighbours}
 use Rattle.sweep.specs.declared.Crossing.{Crossing}
 use Rattle.sweep.proofs.Conditions.{lists-checked}
-use Rattle.sweep.proofs.Runs.{whole, result-says, fed-lists, ran-reached}
+use Rattle.sweep.proofs.Runs.{whole, left-stays, result-says, fed-lists, ran-reached}
 use Rattle.bode.specs.Bode.{gainCrosses, phaseCrosses, gainCrossover, phaseCrossover}
-use Rattle.bode.specs.Summary.{summaryOf, fedBy, joinOf, numberOfFed, leftBy, Part, partRefusal, partReadings, bookOf}
+use Rattle.bode.specs.Summary.{summaryOf, fedBy, joinOf, numberOfFed, leftBy, gainAnswer, phaseAnswer, Part, partRefusal, partReadings, bookOf}
 use Rattle.bode.specs.declared.Crossover.the-variants.{Gain, Phase}
 use Rattle.bode.specs.declared.Reading.{Reading}
 use Rattle.bode.specs.declared.summary.BodeSummary.{BodeSummary}
@@ -58,15 +58,20 @@ Reaches = Reached Made FedBy JoinedBy
 
 -- ---- the claim
 
--- Of a summary s that the calls c left: each answer is what its scan is defined to give on the book's list, of any length; and it is "none" exactly when no two
--- neighbours of that list cross, whichever parts brought them.
+-- Of a summary s that the calls c left: each answer is there, and is what its scan is defined to give on the book's list, of any length; and it is "none" exactly
+-- when no two neighbours of that list cross, whichever parts brought them. A feed's number is what its conditions give over the book; where that is not 0, the
+-- caller has the summary as it was.
 pub record Claim (c : Calls Part) (s : BodeSummary) : Type 0 where
+  pub gain-there : (r : Crossing) × GainOf s r
+  pub phase-there : (r : Crossing) × PhaseOf s r
   pub gain : (r : Crossing) → GainOf s r → crossingOutcome r ≡ crossingOutcome (gainCrossover (bookOf c))
   pub phase : (r : Crossing) → PhaseOf s r → crossingOutcome r ≡ crossingOutcome (phaseCrossover (bookOf c))
   pub no-gain : (r : Crossing) → GainOf s r → crossingOutcome r ≡ none → (x y : Reading) → Neighbours (bookOf c) x y → gainCrosses x y ≡ false
   pub gain-none : (r : Crossing) → GainOf s r → ((x y : Reading) → Neighbours (bookOf c) x y → gainCrosses x y ≡ false) → crossingOutcome r ≡ none
   pub no-phase : (r : Crossing) → PhaseOf s r → crossingOutcome r ≡ none → (x y : Reading) → Neighbours (bookOf c) x y → phaseCrosses x y ≡ false
   pub phase-none : (r : Crossing) → PhaseOf s r → ((x y : Reading) → Neighbours (bookOf c) x y → phaseCrosses x y ≡ false) → crossingOutcome r ≡ none
+  pub feed-number : {p : Part} {t : BodeSummary} (h : FedBy s p t) → numberOfFed (h .result) ≡ partRefusal (bookOf c) (mark c) p
+  pub feed-refused : {p : Part} {t : BodeSummary} → FedBy s p t → (partRefusal (bookOf c) (mark c) p ≡ 0 → ⊥) → t ≡ s
 
 -- ---- the proof: whatever the calls leave is the summary of the book
 
@@ -77,14 +82,19 @@ summary-of-book r =
     (λ s h. h .learnt) (λ l m p t h. h .after ∙ h .call .learnt .1) (λ s t u h. h .learnt) r
 
 pub demand-3 : (c : Calls Part) (s : BodeSummary) → Reaches c s → Claim c s
+unfolding gainAnswer phaseAnswer partRefusal partReadings
 demand-3 c s h =
     record {
+      gain-there = (s .gain, record { lifetimes = tt; exits = (s, tt); learnt = refl });
+      phase-there = (s .phase, record { lifetimes = tt; exits = (s, tt); learnt = refl });
       gain = gain-is;
       phase = phase-is;
       no-gain = λ r g e. no-crossover-in Gain (bookOf c) (sym (gain-is r g) ∙ e);
       gain-none = λ r g e. gain-is r g ∙ none-of-crossover Gain (bookOf c) e;
       no-phase = λ r g e. no-crossover-in Phase (bookOf c) (sym (phase-is r g) ∙ e);
       phase-none = λ r g e. phase-is r g ∙ none-of-crossover Phase (bookOf c) e;
+      feed-number = λ f. f .call .learnt .0;
+      feed-refused = stays;
     }
   where
     gain-is : (r : Crossing) → GainOf s r → crossingOutcome r ≡ crossingOutcome (gainCrossover (bookOf c))
@@ -92,6 +102,9 @@ demand-3 c s h =
 
     phase-is : (r : Crossing) → PhaseOf s r → crossingOutcome r ≡ crossingOutcome (phaseCrossover (bookOf c))
     phase-is r g = rw (summary-of-book h, answer-is Phase) at (g .learnt)
+
+    stays : {p : Part} {t : BodeSummary} → FedBy s p t → (partRefusal (bookOf c) (mark c) p ≡ 0 → ⊥) → t ≡ s
+    stays {p} f n = f .after ∙ f .call .learnt .1 ∙ left-stays (partRefusal (bookOf c) (mark c) p) s (fedBy s (partReadings p)) n
 
 -- ---- the claim is of something: every list of calls leaves a summary
 

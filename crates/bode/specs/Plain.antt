@@ -9,13 +9,14 @@ plainOf s =
       read = readMark (s .read);
       «gain_found» = crossingMark (s .gain);
       «phase_found» = crossingMark (s .phase);
+      reserved = 0;
       first = s .first;
       last = s .last;
       gain = crossingValue (s .gain);
       phase = crossingValue (s .phase);
     }
 
--- the summary of any such numbers, made by a call or not
+-- the summary of any such numbers, made by a call or not; the reserved one is not read
 unfoldable pub fromPlain : BodePlain → BodeSummary
 fromPlain p =
     record {

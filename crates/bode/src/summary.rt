@@ -26,12 +26,14 @@ pub struct BodeSummary {
 }
 
 // The summary as plain numbers, for a host to keep between calls. A mark that is 0 says that there is nothing, and what
-// belongs to it is then 0 too; so all zeros are the summary of no readings.
+// belongs to it is then 0 too; so all zeros are the summary of no readings. The reserved number is always 0 and never
+// read; it stands where padding would, so that every byte is told.
 #[repr(C)]
 pub struct BodePlain {
     pub read: u32,
     pub gain_found: u32,
     pub phase_found: u32,
+    pub reserved: u32,
     pub first: Reading,
     pub last: Reading,
     pub gain: f64,
@@ -204,6 +206,7 @@ impl BodeSummary {
             read: sweep::read_mark(self.read),
             gain_found: sweep::crossing_mark(gain),
             phase_found: sweep::crossing_mark(phase),
+            reserved: 0,
             first,
             last,
             gain: sweep::crossing_value(gain),

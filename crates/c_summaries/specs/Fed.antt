@@ -15,10 +15,10 @@ use Rattle.nyquist.specs.declared.summary.CurvePlain.{CurvePlain}
 use Rattle.c_summaries.specs.declared.curve_summary.CurvePlainFed.{CurvePlainFed}
 
 unfoldable pub fedBode : ℕ → BodeSummary → BodePlain → BodePlainFed
-fedBode n fed s = record { number = n; summary = leftAfter n s (bode.plainOf fed) }
+fedBode n fed s = record { number = n; reserved = 0; summary = leftAfter n s (bode.plainOf fed) }
 
 unfoldable pub fedSensitivity : ℕ → SensitivitySummary → SensitivityPlain → SensitivityPlainFed
-fedSensitivity n fed s = record { number = n; summary = leftAfter n s (sensitivity.plainOf fed) }
+fedSensitivity n fed s = record { number = n; reserved = 0; summary = leftAfter n s (sensitivity.plainOf fed) }
 
 unfoldable pub fedCurve : ℕ → CurveSummary → CurvePlain → CurvePlainFed
-fedCurve n fed s = record { number = n; summary = leftAfter n s (curve.plainOf fed) }
+fedCurve n fed s = record { number = n; reserved = 0; summary = leftAfter n s (curve.plainOf fed) }

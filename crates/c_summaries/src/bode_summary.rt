@@ -16,6 +16,7 @@ use bode::BodeSummary;
 #[repr(C)]
 pub struct BodePlainFed {
     pub number: u32,
+    pub reserved: u32,
     pub summary: BodePlain,
 }
 
@@ -32,10 +33,12 @@ fn put_fed(fed: BodeFed, s: BodePlain) -> BodePlainFed
     match fed {
         BodeFed::Taken(t) => BodePlainFed {
             number: 0,
+            reserved: 0,
             summary: t.to_plain(),
         },
         BodeFed::Refused(e) => BodePlainFed {
             number: e.number(),
+            reserved: 0,
             summary: s,
         },
     }

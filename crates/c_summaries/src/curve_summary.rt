@@ -14,6 +14,7 @@ use nyquist::CurveSummary;
 #[repr(C)]
 pub struct CurvePlainFed {
     pub number: u32,
+    pub reserved: u32,
     pub summary: CurvePlain,
 }
 
@@ -30,10 +31,12 @@ fn put_fed(fed: CurveFed, s: CurvePlain) -> CurvePlainFed
     match fed {
         CurveFed::Taken(t) => CurvePlainFed {
             number: 0,
+            reserved: 0,
             summary: t.to_plain(),
         },
         CurveFed::Refused(e) => CurvePlainFed {
             number: e.number(),
+            reserved: 0,
             summary: s,
         },
     }

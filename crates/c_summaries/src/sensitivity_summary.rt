@@ -17,6 +17,7 @@ use sensitivity::SensitivitySummary;
 #[repr(C)]
 pub struct SensitivityPlainFed {
     pub number: u32,
+    pub reserved: u32,
     pub summary: SensitivityPlain,
 }
 
@@ -33,10 +34,12 @@ fn put_fed(fed: SensitivityFed, s: SensitivityPlain) -> SensitivityPlainFed
     match fed {
         SensitivityFed::Taken(t) => SensitivityPlainFed {
             number: 0,
+            reserved: 0,
             summary: t.to_plain(),
         },
         SensitivityFed::Refused(e) => SensitivityPlainFed {
             number: e.number(),
+            reserved: 0,
             summary: s,
         },
     }

@@ -27,8 +27,8 @@ markedPoint mark z = cond (eqb mark 0) Nowhere (Point z)
 -- ---- the summary
 
 unfoldable pub plainOf : CurveSummary → CurvePlain
-plainOf s = record { found = pointMark (s .nearest); re = pointValue (s .nearest) .re; im = pointValue (s .nearest) .im }
+plainOf s = record { found = pointMark (s .nearest); reserved = 0; re = pointValue (s .nearest) .re; im = pointValue (s .nearest) .im }
 
--- the summary of any such numbers, made by a call or not
+-- the summary of any such numbers, made by a call or not; the reserved one is not read
 unfoldable pub fromPlain : CurvePlain → CurveSummary
 fromPlain p = record { nearest = markedPoint (p .found) (newOf (p .re) (p .im)) }

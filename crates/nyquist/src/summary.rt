@@ -23,10 +23,12 @@ pub struct CurveSummary {
     nearest: Nearest,
 }
 
-// The summary as plain numbers, for a host to keep between calls: 1 and the nearest point, or three zeros.
+// The summary as plain numbers, for a host to keep between calls: 1 and the nearest point, or zeros. The reserved number
+// is always 0 and never read; it stands where padding would, so that every byte is told.
 #[repr(C)]
 pub struct CurvePlain {
     pub found: u32,
+    pub reserved: u32,
     pub re: f64,
     pub im: f64,
 }
@@ -202,6 +204,7 @@ impl CurveSummary {
         let z = point_value(nearest);
         CurvePlain {
             found: point_mark(nearest),
+            reserved: 0,
             re: z.re,
             im: z.im,
         }

@@ -9,13 +9,14 @@ plainOf s =
       read = readMark (s .read);
       «crossover_found» = crossingMark (s .crossover);
       «bandwidth_state» = keptMark (s .bandwidth);
+      reserved = 0;
       first = s .first;
       last = s .last;
       crossover = crossingValue (s .crossover);
       bandwidth = keptValue (s .bandwidth);
     }
 
--- the summary of any such numbers, made by a call or not
+-- the summary of any such numbers, made by a call or not; the reserved one is not read
 unfoldable pub fromPlain : SensitivityPlain → SensitivitySummary
 fromPlain p =
     record {

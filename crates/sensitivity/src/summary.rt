@@ -28,11 +28,13 @@ pub struct SensitivitySummary {
 
 // The summary as plain numbers, for a host to keep between calls. A mark that is 0 says that there is nothing, and what
 // belongs to it is then 0 too; so all zeros are the summary of no readings. The bandwidth's mark is 2 where it is not kept.
+// The reserved number is always 0 and never read; it stands where padding would, so that every byte is told.
 #[repr(C)]
 pub struct SensitivityPlain {
     pub read: u32,
     pub crossover_found: u32,
     pub bandwidth_state: u32,
+    pub reserved: u32,
     pub first: Reading,
     pub last: Reading,
     pub crossover: f64,
@@ -238,6 +240,7 @@ impl SensitivitySummary {
             read: sweep::read_mark(self.read),
             crossover_found: sweep::crossing_mark(crossover),
             bandwidth_state: sweep::kept_mark(bandwidth),
+            reserved: 0,
             first,
             last,
             crossover: sweep::crossing_value(crossover),
