@@ -12,9 +12,9 @@ use mathlib.Core.List.{List, [], _∷_}
 use lib.Ieee.{Float}
 use Rattle.sweep.specs.Runs.{Calls, mark, Reached, leftAfter, runOf, Returned, FedLists}
 use Rattle.sweep.proofs.Conditions.{Checked, scan-checked}
-use Rattle.sweep.proofs.Runs.{whole, result-says, fed-lists, ran-reached}
+use Rattle.sweep.proofs.Runs.{whole, left-stays, result-says, fed-lists, ran-reached}
 use Rattle.nyquist.specs.Curve.{distanceOf, curveRefusal}
-use Rattle.nyquist.specs.Summary.{summaryOf, fedBy, joinOf, numberOfFed, leftBy, Part, partRefusal, partPoints, bookOf}
+use Rattle.nyquist.specs.Summary.{summaryOf, fedBy, joinOf, numberOfFed, leftBy, approachAnswer, Part, partRefusal, partPoints, bookOf}
 use Rattle.nyquist.specs.declared.summary.CurveSummary.{CurveSummary}
 use Rattle.nyquist.specs.declared.summary.CurveFed.the-variants.{Taken, Refused}
 use Rattle.nyquist.proofs.Joins.{fed-append, join-append, approach-answer}
@@ -47,9 +47,13 @@ Reaches = Reached Made FedBy JoinedBy
 
 -- ---- the claim
 
--- Of a summary s that the calls c left: the closest approach is what `distance_to_critical` is defined to give on the book's list, of any length.
+-- Of a summary s that the calls c left: the closest approach is there, and is what `distance_to_critical` is defined to give on the book's list, of any length.
+-- A feed's number is what its conditions give over the book; where that is not 0, the caller has the summary as it was.
 pub record Claim (c : Calls Part) (s : CurveSummary) : Type 0 where
+  pub approach-there : (r : Float) × ApproachOf s r
   pub approach : (r : Float) → ApproachOf s r → r ≡ distanceOf (bookOf c)
+  pub feed-number : {p : Part} {t : CurveSummary} (h : FedBy s p t) → numberOfFed (h .result) ≡ partRefusal (bookOf c) (mark c) p
+  pub feed-refused : {p : Part} {t : CurveSummary} → FedBy s p t → (partRefusal (bookOf c) (mark c) p ≡ 0 → ⊥) → t ≡ s
 
 -- ---- the proof: whatever the calls leave is the summary of the book
 
@@ -60,7 +64,17 @@ summary-of-book r =
     (λ s h. h .learnt) (λ l m p t h. h .after ∙ h .call .learnt .1) (λ s t u h. h .learnt) r
 
 pub demand-3 : (c : Calls Part) (s : CurveSummary) → Reaches c s → Claim c s
-demand-3 c s h = record { approach = λ r g. rw (summary-of-book h, approach-answer) at (g .learnt) }
+unfolding partRefusal partPoints
+demand-3 c s h =
+    record {
+      approach-there = (approachAnswer s, record { lifetimes = tt; exits = (s, tt); learnt = refl });
+      approach = λ r g. rw (summary-of-book h, approach-answer) at (g .learnt);
+      feed-number = λ f. f .call .learnt .0;
+      feed-refused = stays;
+    }
+  where
+    stays : {p : Part} {t : CurveSummary} → FedBy s p t → (partRefusal (bookOf c) (mark c) p ≡ 0 → ⊥) → t ≡ s
+    stays {p} f n = f .after ∙ f .call .learnt .1 ∙ left-stays (partRefusal (bookOf c) (mark c) p) s (fedBy s (partPoints p)) n
 
 -- ---- the claim is of something: every list of calls leaves a summary
 

@@ -19,9 +19,9 @@ use Rattle.sweep.specs.declared.Crossing.{Crossing}
 use Rattle.sweep.specs.declared.Kept.{Kept}
 use Rattle.sweep.proofs.Conditions.{lists-checked}
 use Rattle.sweep.proofs.Scans.{crossing-kept}
-use Rattle.sweep.proofs.Runs.{whole, result-says, fed-lists, ran-reached}
+use Rattle.sweep.proofs.Runs.{whole, left-stays, result-says, fed-lists, ran-reached}
 use Rattle.sensitivity.specs.Scans.{equalCrosses, sensitivityCrossover, levelOf, drops, bandwidthOf}
-use Rattle.sensitivity.specs.Summary.{summaryOf, fedBy, joinOf, numberOfFed, leftBy, bandwidthOutcome, Part, partRefusal, partReadings, bookOf}
+use Rattle.sensitivity.specs.Summary.{summaryOf, fedBy, joinOf, numberOfFed, leftBy, crossoverAnswer, bandwidthAnswer, bandwidthOutcome, Part, partRefusal, partReadings, bookOf}
 use Rattle.sensitivity.specs.declared.Reading.{Reading}
 use Rattle.sensitivity.specs.declared.summary.SensitivitySummary.{SensitivitySummary}
 use Rattle.sensitivity.specs.declared.summary.SensitivityFed.the-variants.{Taken, Refused}
@@ -61,9 +61,12 @@ Reaches = Reached Made FedBy JoinedBy
 
 -- ---- the claim
 
--- Of a summary s that the calls c left: the crossover is what its scan is defined to give on the book's list, of any length; the bandwidth is "not kept" exactly
+-- Of a summary s that the calls c left: each answer is there. The crossover is what its scan is defined to give on the book's list, of any length; the bandwidth is "not kept" exactly
 -- under the mark, and else what its scan is defined to give. Each is "none" exactly when no two neighbours of that list cross, whichever parts brought them.
+-- A feed's number is what its conditions give over the book; where that is not 0, the caller has the summary as it was.
 pub record Claim (c : Calls Part) (s : SensitivitySummary) : Type 0 where
+  pub crossover-there : (r : Crossing) × CrossoverOf s r
+  pub bandwidth-there : (r : Kept) × BandwidthOf s r
   pub crossover : (r : Crossing) → CrossoverOf s r → crossingOutcome r ≡ crossingOutcome (sensitivityCrossover (bookOf c))
   pub no-crossover : (r : Crossing) → CrossoverOf s r → crossingOutcome r ≡ none → (x y : Reading) → Neighbours (bookOf c) x y → equalCrosses x y ≡ false
   pub crossover-none : (r : Crossing) → CrossoverOf s r → ((x y : Reading) → Neighbours (bookOf c) x y → equalCrosses x y ≡ false) → crossingOutcome r ≡ none
@@ -72,6 +75,8 @@ pub record Claim (c : Calls Part) (s : SensitivitySummary) : Type 0 where
   pub only-marked : (r : Kept) → BandwidthOf s r → keptOutcome r ≡ notKept → mark c ≡ true
   pub no-bandwidth : (r : Kept) → BandwidthOf s r → keptOutcome r ≡ none → (x y : Reading) → Neighbours (bookOf c) x y → drops (levelOf (bookOf c)) x y ≡ false
   pub bandwidth-none : (r : Kept) → BandwidthOf s r → mark c ≡ false → ((x y : Reading) → Neighbours (bookOf c) x y → drops (levelOf (bookOf c)) x y ≡ false) → keptOutcome r ≡ none
+  pub feed-number : {p : Part} {t : SensitivitySummary} (h : FedBy s p t) → numberOfFed (h .result) ≡ partRefusal (bookOf c) (mark c) p
+  pub feed-refused : {p : Part} {t : SensitivitySummary} → FedBy s p t → (partRefusal (bookOf c) (mark c) p ≡ 0 → ⊥) → t ≡ s
 
 -- ---- the proof: whatever the calls leave is the summary of the book
 
@@ -101,8 +106,11 @@ none-unmarked true l h = absurd (apart (sym h) (omega arith))
 none-unmarked false l h = h
 
 pub demand-3 : (c : Calls Part) (s : SensitivitySummary) → Reaches c s → Claim c s
+unfolding crossoverAnswer bandwidthAnswer partRefusal partReadings
 demand-3 c s h =
     record {
+      crossover-there = (s .crossover, record { lifetimes = tt; exits = (s, tt); learnt = refl });
+      bandwidth-there = (s .bandwidth, record { lifetimes = tt; exits = (s, tt); learnt = refl });
       crossover = crossover-is;
       no-crossover = λ r g e. no-crossover-in (bookOf c) (sym (crossover-is r g) ∙ e);
       crossover-none = λ r g e. crossover-is r g ∙ none-of-crossover (bookOf c) e;
@@ -111,6 +119,8 @@ demand-3 c s h =
       only-marked = λ r g e. only-under-mark (mark c) (bookOf c) (sym (bandwidth-is r g) ∙ e);
       no-bandwidth = λ r g e. no-bandwidth-in (bookOf c) (none-unmarked (mark c) (bookOf c) (sym (bandwidth-is r g) ∙ e));
       bandwidth-none = λ r g e f. bandwidth-is r g ∙ without-mark (mark c) (bookOf c) e ∙ none-of-bandwidth (bookOf c) f;
+      feed-number = λ f. f .call .learnt .0;
+      feed-refused = stays;
     }
   where
     crossover-is : (r : Crossing) → CrossoverOf s r → crossingOutcome r ≡ crossingOutcome (sensitivityCrossover (bookOf c))
@@ -118,6 +128,9 @@ demand-3 c s h =
 
     bandwidth-is : (r : Kept) → BandwidthOf s r → keptOutcome r ≡ bandwidthOutcome (mark c) (bookOf c)
     bandwidth-is r g = rw (summary-of-book h, bandwidth-answer) at (g .learnt)
+
+    stays : {p : Part} {t : SensitivitySummary} → FedBy s p t → (partRefusal (bookOf c) (mark c) p ≡ 0 → ⊥) → t ≡ s
+    stays {p} f n = f .after ∙ f .call .learnt .1 ∙ left-stays (partRefusal (bookOf c) (mark c) p) s (fedBy s (partReadings p)) n
 
 -- ---- the claim is of something: every list of calls leaves a summary
 

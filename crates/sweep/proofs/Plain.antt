@@ -1,8 +1,11 @@
 -- Crossings as plain numbers, and summaries that a host keeps so. Assumes nothing.
-use Prim.Native.Nat.{ℕ}
+use Prim.Native.Nat.{ℕ, _<_}
 use mathlib.Core.Path.{_≡_, refl, _∙_, ap}
 use mathlib.Core.Bool.{Bool, true, false}
 use mathlib.Core.List.{List, [], _++_}
+use native.Mathlib.Omega.{arith}
+use borrow.Author.Tests.{ne-eqb}
+use lib.Ieee.{Float}
 use Rattle.sweep.specs.Plain.{readMark, markedRead, crossingMark, crossingValue, markedCrossing, keptMark, keptValue, markedKept}
 use Rattle.sweep.specs.Runs.{Calls, book, mark, Reached, leftAfter, isTaken}
 use Rattle.sweep.specs.declared.Crossing.{Crossing}
@@ -25,6 +28,17 @@ pub kept-back : (k : Kept) → markedKept (keptMark k) (keptValue k) ≡ k
 kept-back (Found x) = refl
 kept-back Absent = refl
 kept-back NotKept = refl
+
+-- ---- what marks mean that no call made: any but 0 counts, of what is kept any but 0 and 1 is "not kept"
+
+pub mark-counts : (mark : ℕ) → (mark ≡ 0 → ⊥) → markedRead mark ≡ true
+mark-counts mark h = rw (ne-eqb mark 0 h)
+
+pub crossing-counts : (mark : ℕ) (x : Float) → (mark ≡ 0 → ⊥) → markedCrossing mark x ≡ At x
+crossing-counts mark x h = rw (ne-eqb mark 0 h)
+
+pub kept-not : (mark : ℕ) (x : Float) → 1 < mark → markedKept mark x ≡ NotKept
+kept-not mark x h = rw (ne-eqb mark 0 (λ (e : mark ≡ 0). omega arith), ne-eqb mark 1 (λ (e : mark ≡ 1). omega arith))
 
 -- ---- A kind of summary by its laws, as in `Runs`, whose summaries cross as plain numbers and are read back.
 module _ {R S Q : Type 0} (at : List R → Bool → S) (fedBy : S → List R → S) (joinOf : S → S → S)
