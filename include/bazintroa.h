@@ -174,6 +174,7 @@ typedef struct {
     uint32_t read;        /* 1 where there are readings: the first and the last of them */
     uint32_t gain_found;  /* 1 where 0 dB is crossed: first at `gain` */
     uint32_t phase_found; /* 1 where -180 degrees are crossed: first at `phase` */
+    uint32_t reserved;    /* 0; never read */
     bazintroa_reading first;
     bazintroa_reading last;
     double gain;
@@ -182,6 +183,7 @@ typedef struct {
 
 typedef struct {
     uint32_t number;
+    uint32_t reserved; /* 0 */
     bazintroa_bode_summary summary;
 } bazintroa_bode_fed;
 
@@ -203,7 +205,8 @@ typedef struct {
 typedef struct {
     uint32_t read;
     uint32_t crossover_found; /* 1 where S and T cross: first at `crossover` */
-    uint32_t bandwidth_state;  /* 1: `bandwidth`; 0: none; 2, or any other: not kept */
+    uint32_t bandwidth_state; /* 1: `bandwidth`; 0: none; 2, or any other: not kept */
+    uint32_t reserved;        /* 0; never read */
     bazintroa_sensitivity_reading first;
     bazintroa_sensitivity_reading last;
     double crossover;
@@ -212,6 +215,7 @@ typedef struct {
 
 typedef struct {
     uint32_t number;
+    uint32_t reserved; /* 0 */
     bazintroa_sensitivity_summary summary;
 } bazintroa_sensitivity_fed;
 
@@ -231,12 +235,14 @@ uint32_t bazintroa_sensitivity_summary_bandwidth(bazintroa_sensitivity_summary s
  * whose square overflows, does not. */
 typedef struct {
     uint32_t found;
+    uint32_t reserved; /* 0; never read */
     double re;
     double im;
 } bazintroa_curve_summary;
 
 typedef struct {
     uint32_t number;
+    uint32_t reserved; /* 0 */
     bazintroa_curve_summary summary;
 } bazintroa_curve_fed;
 

@@ -20,6 +20,7 @@ pub struct BodePlain {
     pub read: u32,
     pub gain_found: u32,
     pub phase_found: u32,
+    pub reserved: u32,
     pub first: Reading,
     pub last: Reading,
     pub gain: f64,
@@ -31,6 +32,7 @@ pub struct BodePlain {
 #[derive(Clone, Copy, Debug)]
 pub struct BodePlainFed {
     pub number: u32,
+    pub reserved: u32,
     pub summary: BodePlain,
 }
 
@@ -42,6 +44,7 @@ pub struct SensitivityPlain {
     pub read: u32,
     pub crossover_found: u32,
     pub bandwidth_state: u32,
+    pub reserved: u32,
     pub first: SensitivityReading,
     pub last: SensitivityReading,
     pub crossover: f64,
@@ -53,6 +56,7 @@ pub struct SensitivityPlain {
 #[derive(Clone, Copy, Debug)]
 pub struct SensitivityPlainFed {
     pub number: u32,
+    pub reserved: u32,
     pub summary: SensitivityPlain,
 }
 
@@ -61,6 +65,7 @@ pub struct SensitivityPlainFed {
 #[derive(Clone, Copy, Debug)]
 pub struct CurvePlain {
     pub found: u32,
+    pub reserved: u32,
     pub re: f64,
     pub im: f64,
 }
@@ -70,6 +75,7 @@ pub struct CurvePlain {
 #[derive(Clone, Copy, Debug)]
 pub struct CurvePlainFed {
     pub number: u32,
+    pub reserved: u32,
     pub summary: CurvePlain,
 }
 

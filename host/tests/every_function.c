@@ -325,21 +325,62 @@ static void stability(void) {
 
 /* ---- summaries ---- */
 
+/* Without padding every byte is one of a field, and each field stands where the header has it. */
+#define PLACE(type, field, at) _Static_assert(offsetof(type, field) == (at), #field)
+PLACE(bazintroa_reading, omega, 0);
+PLACE(bazintroa_reading, db, 8);
+PLACE(bazintroa_reading, phase, 16);
+_Static_assert(sizeof(bazintroa_reading) == 24, "reading");
+PLACE(bazintroa_bode_summary, read, 0);
+PLACE(bazintroa_bode_summary, gain_found, 4);
+PLACE(bazintroa_bode_summary, phase_found, 8);
+PLACE(bazintroa_bode_summary, reserved, 12);
+PLACE(bazintroa_bode_summary, first, 16);
+PLACE(bazintroa_bode_summary, last, 40);
+PLACE(bazintroa_bode_summary, gain, 64);
+PLACE(bazintroa_bode_summary, phase, 72);
+_Static_assert(sizeof(bazintroa_bode_summary) == 80, "summary");
+PLACE(bazintroa_bode_fed, reserved, 4);
+PLACE(bazintroa_bode_fed, summary, 8);
+PLACE(bazintroa_sensitivity_reading, s, 8);
+PLACE(bazintroa_sensitivity_reading, t, 16);
+PLACE(bazintroa_sensitivity_summary, crossover_found, 4);
+PLACE(bazintroa_sensitivity_summary, bandwidth_state, 8);
+PLACE(bazintroa_sensitivity_summary, reserved, 12);
+PLACE(bazintroa_sensitivity_summary, first, 16);
+PLACE(bazintroa_sensitivity_summary, last, 40);
+PLACE(bazintroa_sensitivity_summary, crossover, 64);
+PLACE(bazintroa_sensitivity_summary, bandwidth, 72);
+_Static_assert(sizeof(bazintroa_sensitivity_summary) == 80, "summary");
+PLACE(bazintroa_sensitivity_fed, reserved, 4);
+PLACE(bazintroa_sensitivity_fed, summary, 8);
+PLACE(bazintroa_curve_summary, reserved, 4);
+PLACE(bazintroa_curve_summary, re, 8);
+PLACE(bazintroa_curve_summary, im, 16);
+_Static_assert(sizeof(bazintroa_curve_summary) == 24, "summary");
+PLACE(bazintroa_curve_fed, reserved, 4);
+PLACE(bazintroa_curve_fed, summary, 8);
+
+#define SAME_BYTES(a, b) (memcmp(&(a), &(b), sizeof(a)) == 0)
+static const unsigned char zeros[80];
+#define ALL_ZERO(a) (memcmp(&(a), zeros, sizeof(a)) == 0)
+
 static void bode(void) {
     double x;
 
     TRY(bazintroa_bode_empty);
     bazintroa_bode_summary empty = bazintroa_bode_empty();
-    EXPECT(empty.read == 0 && empty.gain_found == 0 && empty.phase_found == 0);
+    EXPECT(ALL_ZERO(empty));
 
     TRY(bazintroa_bode_feed);
     bazintroa_bode_fed fed = bazintroa_bode_feed(empty, LISTS(omega, db, phase, 2));
     EXPECT(fed.number == 0 && fed.summary.read == 1 && fed.summary.gain_found == 0);
+    EXPECT(fed.reserved == 0 && fed.summary.reserved == 0);
     EXPECT(fed.summary.first.omega == 1 && fed.summary.last.omega == 2);
     bazintroa_bode_summary first = fed.summary;
     EXPECT(bazintroa_bode_feed(first, omega, 4, db, 4, phase, 3).number == 11);
     fed = bazintroa_bode_feed(first, LISTS(long_list, long_list, long_list, 4097));
-    EXPECT(fed.number == 15 && fed.summary.read == 1 && fed.summary.last.omega == 2);
+    EXPECT(fed.number == 15 && fed.reserved == 0 && SAME_BYTES(fed.summary, first));
     fed = bazintroa_bode_feed(first, LISTS(omega + 2, db + 2, phase + 2, 2));
     EXPECT(fed.number == 0 && fed.summary.first.phase == -90 && fed.summary.last.phase == -200);
     bazintroa_bode_summary whole = fed.summary;
@@ -348,7 +389,8 @@ static void bode(void) {
     bazintroa_bode_summary second =
         bazintroa_bode_feed(empty, LISTS(omega + 2, db + 2, phase + 2, 2)).summary;
     bazintroa_bode_summary joined = bazintroa_bode_join(first, second);
-    EXPECT(joined.first.db == 6 && joined.last.db == -10);
+    EXPECT(joined.first.db == 6 && joined.last.db == -10 && joined.reserved == 0);
+    EXPECT(SAME_BYTES(joined, whole));
     EXPECT(joined.gain_found == 1 && joined.gain == 3);
     EXPECT(joined.phase_found == 1 && joined.phase == 6);
 
@@ -370,16 +412,17 @@ static void sensitivity(void) {
 
     TRY(bazintroa_sensitivity_empty);
     bazintroa_sensitivity_summary empty = bazintroa_sensitivity_empty();
-    EXPECT(empty.read == 0 && empty.crossover_found == 0 && empty.bandwidth_state == 0);
+    EXPECT(ALL_ZERO(empty));
 
     TRY(bazintroa_sensitivity_feed);
     bazintroa_sensitivity_fed fed = bazintroa_sensitivity_feed(empty, LISTS(omega, s_db, t_db, 2));
     EXPECT(fed.number == 0 && fed.summary.read == 1 && fed.summary.first.s == -20);
+    EXPECT(fed.reserved == 0 && fed.summary.reserved == 0);
     EXPECT(fed.summary.last.omega == 2 && fed.summary.last.s == -3 && fed.summary.last.t == -1);
     bazintroa_sensitivity_summary first = fed.summary;
     EXPECT(bazintroa_sensitivity_feed(first, omega, 3, s_db, 2, t_db, 3).number == 11);
     fed = bazintroa_sensitivity_feed(first, LISTS(long_list, long_list, long_list, 4097));
-    EXPECT(fed.number == 15 && fed.summary.last.omega == 2);
+    EXPECT(fed.number == 15 && fed.reserved == 0 && SAME_BYTES(fed.summary, first));
     fed = bazintroa_sensitivity_feed(first, LISTS(omega + 2, s_db + 2, t_db + 2, 1));
     EXPECT(fed.number == 0 && fed.summary.last.omega == 4 && fed.summary.last.t == -5);
     bazintroa_sensitivity_summary whole = fed.summary;
@@ -388,7 +431,7 @@ static void sensitivity(void) {
     bazintroa_sensitivity_summary second =
         bazintroa_sensitivity_feed(empty, LISTS(omega + 2, s_db + 2, t_db + 2, 1)).summary;
     bazintroa_sensitivity_summary joined = bazintroa_sensitivity_join(first, second);
-    EXPECT(joined.first.omega == 1 && joined.last.omega == 4);
+    EXPECT(joined.first.omega == 1 && joined.last.omega == 4 && joined.reserved == 0);
 
     TRY(bazintroa_sensitivity_summary_crossover);
     EXPECT(bazintroa_sensitivity_summary_crossover(whole, &x) == 0 && x == 2.5);
@@ -411,17 +454,18 @@ static void curve(void) {
 
     TRY(bazintroa_curve_empty);
     bazintroa_curve_summary empty = bazintroa_curve_empty();
-    EXPECT(empty.found == 0);
+    EXPECT(ALL_ZERO(empty));
 
     TRY(bazintroa_curve_feed);
     bazintroa_curve_fed fed = bazintroa_curve_feed(empty, far, 2, zero, 2);
     EXPECT(fed.number == 0 && fed.summary.found == 0);
     fed = bazintroa_curve_feed(empty, re, 1, im, 1);
     EXPECT(fed.number == 0 && fed.summary.found == 1 && fed.summary.re == 0 && fed.summary.im == 0);
+    EXPECT(fed.reserved == 0 && fed.summary.reserved == 0);
     bazintroa_curve_summary first = fed.summary;
     EXPECT(bazintroa_curve_feed(first, re, 2, im, 1).number == 11);
     fed = bazintroa_curve_feed(first, long_list, 4097, long_list, 4097);
-    EXPECT(fed.number == 15 && fed.summary.found == 1 && fed.summary.re == 0);
+    EXPECT(fed.number == 15 && fed.reserved == 0 && SAME_BYTES(fed.summary, first));
     fed = bazintroa_curve_feed(first, re + 1, 1, im + 1, 1);
     EXPECT(fed.number == 0 && fed.summary.re == -1 && fed.summary.im == 0.5);
     bazintroa_curve_summary whole = fed.summary;
@@ -429,7 +473,7 @@ static void curve(void) {
     TRY(bazintroa_curve_join);
     bazintroa_curve_summary second = bazintroa_curve_feed(empty, re + 1, 1, im + 1, 1).summary;
     bazintroa_curve_summary joined = bazintroa_curve_join(first, second);
-    EXPECT(joined.found == 1 && joined.re == -1 && joined.im == 0.5);
+    EXPECT(SAME_BYTES(joined, whole));
 
     TRY(bazintroa_curve_closest_approach);
     EXPECT(bazintroa_curve_closest_approach(empty) == 0);

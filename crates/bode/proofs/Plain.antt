@@ -1,14 +1,15 @@
 -- The plain numbers of a summary: they give it back, and where each of them stands. Assumes nothing.
 use Prim.Native.Nat.{ℕ}
 use mathlib.Core.Path.{_≡_, refl}
-use mathlib.Core.Bool.{false}
+use mathlib.Core.Bool.{true, false}
 use mathlib.Core.List.{[]}
 use lib.Ieee.{Float}
 use Rattle.scalar.specs.Scalar.{f0}
 use Rattle.sweep.specs.Plain.{readMark, markedRead, crossingMark, crossingValue, markedCrossing}
+use Rattle.sweep.specs.declared.Crossing.the-variants.{At}
 use Rattle.sweep.proofs.Plain.{read-back, crossing-back}
 use Rattle.bode.specs.Bode.{reading, gainCrossover, phaseCrossover}
-use Rattle.bode.specs.Summary.{zeroReading, summaryOf}
+use Rattle.bode.specs.Summary.{summaryOf}
 use Rattle.bode.specs.Plain.{plainOf, fromPlain}
 use Rattle.bode.specs.declared.Reading.{Reading}
 use Rattle.bode.specs.declared.summary.BodeSummary.{BodeSummary}
@@ -30,8 +31,15 @@ pub plain-places : (s : BodeSummary)
 unfolding plainOf
 plain-places s = refl
 
+-- the marks of readings and of crossings that were found
+pub found-marks : (first last : Reading) (gain phase : Float)
+    → plain-type.struct .as-values (plainOf (record { read = true; first = first; last = last; gain = At gain; phase = At phase }))
+    ≡ (1, (1, (1, (0, (first, (last, (gain, (phase, tt))))))))
+unfolding plainOf
+found-marks first last gain phase = refl
+
 -- all zeros are the summary of no readings
-pub empty-zeros : plain-type.struct .as-values (plainOf (summaryOf [] false)) ≡ (0, (0, (0, (0, (zeroReading, (zeroReading, (f0, (f0, tt))))))))
+pub empty-zeros : plain-type.struct .as-values (plainOf (summaryOf [] false)) ≡ (0, (0, (0, (0, (reading f0 f0 f0, (reading f0 f0 f0, (f0, (f0, tt))))))))
 unfolding plainOf summaryOf gainCrossover phaseCrossover
 empty-zeros = refl
 

@@ -5,10 +5,10 @@ use mathlib.Core.Bool.{false}
 use mathlib.Core.List.{[], _∷_}
 use lib.Ieee.{Float}
 use Rattle.sweep.specs.Runs.{Calls, mark, Reached, runOf, Returned, FedLists}
-use Rattle.sweep.proofs.Runs.{fed-lists, ran-reached}
+use Rattle.sweep.proofs.Runs.{left-stays, fed-lists, ran-reached}
 use Rattle.sweep.proofs.Plain.{whole-plain}
 use Rattle.nyquist.specs.Curve.{distanceOf}
-use Rattle.nyquist.specs.Summary.{summaryOf, fedBy, joinOf, Part, partRefusal, partPoints, bookOf}
+use Rattle.nyquist.specs.Summary.{summaryOf, fedBy, joinOf, approachAnswer, Part, partRefusal, partPoints, bookOf}
 use Rattle.nyquist.specs.Plain.{plainOf, fromPlain}
 use Rattle.nyquist.specs.declared.summary.CurvePlain.{CurvePlain}
 use Rattle.nyquist.proofs.Joins.{fed-append, join-append, approach-answer}
@@ -44,9 +44,13 @@ Reaches = Reached Made FedBy JoinedBy
 
 -- ---- the claim
 
--- Of plain numbers p that the calls c left: the answer is the scan's on the book's list.
+-- Of plain numbers p that the calls c left: the answer is there, and is the scan's on the book's list. A feed's number is what its conditions give over the book;
+-- where that is not 0, the numbers come back as they were.
 pub record Host (c : Calls Part) (p : CurvePlain) : Type 0 where
+  pub approach-there : (r : Float) × ApproachOf p r
   pub approach : {r : Float} → ApproachOf p r → r ≡ distanceOf (bookOf c)
+  pub feed-number : {x : Part} {q : CurvePlain} (h : FedBy p x q) → h .result .number ≡ partRefusal (bookOf c) (mark c) x
+  pub feed-refused : {x : Part} {q : CurvePlain} → FedBy p x q → (partRefusal (bookOf c) (mark c) x ≡ 0 → ⊥) → q ≡ p
 
 -- ---- the proof: whatever the calls leave are the plain numbers of the book's summary
 
@@ -57,7 +61,19 @@ plain-of-book r =
     (λ p h. h .learnt) (λ l m x q h. h .after ∙ ap (λ (f : CurvePlainFed). f .summary) (h .call .learnt)) (λ p q r h. h .learnt) r
 
 pub demand-3 : (c : Calls Part) (p : CurvePlain) → Reaches c p → Host c p
-demand-3 c p h = record { approach = λ g. rw (plain-of-book h, plain-back, approach-answer) at (g .learnt) }
+unfolding partRefusal partPoints fedCurve
+demand-3 c p h =
+    record {
+      approach-there = (approachAnswer (fromPlain p), record { lifetimes = tt; exits = (p, tt); learnt = refl });
+      approach = λ g. rw (plain-of-book h, plain-back, approach-answer) at (g .learnt);
+      feed-number = λ f. ap (λ (r : CurvePlainFed). r .number) (f .call .learnt);
+      feed-refused = stays;
+    }
+  where
+    stays : {x : Part} {q : CurvePlain} → FedBy p x q → (partRefusal (bookOf c) (mark c) x ≡ 0 → ⊥) → q ≡ p
+    stays {x} f n =
+        f .after ∙ ap (λ (r : CurvePlainFed). r .summary) (f .call .learnt)
+        ∙ left-stays (partRefusal (bookOf c) (mark c) x) p (plainOf (fedBy (fromPlain p) (partPoints x))) n
 
 -- ---- the claim is of something: every list of calls leaves plain numbers
 

@@ -1,3 +1,4 @@
+pub mod Places
 pub mod BodeRuns
 pub mod SensitivityRuns
 pub mod CurveRuns

@@ -3,7 +3,7 @@ use Prim.Native.Nat.{ℕ, _<_}
 use lib.ListN.{length, getD}
 use Rattle.worked_cases.specs.Cases.{Row, Right}
 use Rattle.worked_cases.proofs.Rows.{right, Settled, row-at, _and_}
-use Rattle.checked_definitions.specs.Asked.{squareRoots, complexNumbers, responses, formulas, quartic, quintic, sextic, septic, octic, searches, regions, scans, grids, summaries, asked}
+use Rattle.checked_definitions.specs.Asked.{squareRoots, complexNumbers, responses, starts, formulas, quartic, quintic, sextic, septic, octic, searches, regions, scans, grids, summaries, asked}
 
 square-roots-right : Settled squareRoots
 unfolding right squareRoots
@@ -16,6 +16,10 @@ complex-numbers-right = record { test = tt }
 responses-right : Settled responses
 unfolding right responses
 responses-right = record { test = tt }
+
+starts-right : Settled starts
+unfolding right starts
+starts-right = record { test = tt }
 
 formulas-right : Settled formulas
 unfolding right formulas
@@ -63,7 +67,7 @@ summaries-right = record { test = tt }
 
 pub asked-right : Settled asked
 unfolding asked
-asked-right = square-roots-right and complex-numbers-right and responses-right and formulas-right and quartic-right and quintic-right and sextic-right and septic-right and octic-right and searches-right and regions-right and scans-right and grids-right and summaries-right
+asked-right = square-roots-right and complex-numbers-right and responses-right and starts-right and formulas-right and quartic-right and quintic-right and sextic-right and septic-right and octic-right and searches-right and regions-right and scans-right and grids-right and summaries-right
 
 pub asked-at : (k : ℕ) (d : Row) → k < length asked → Right (getD asked k d)
 asked-at k d h = row-at asked-right k d h

@@ -9,7 +9,7 @@ use Rattle.sweep.specs.Answer.{notKept}
 use Rattle.sweep.specs.Runs.{start, feed, join}
 use Rattle.transfer_fn.specs.declared.TransferFn.{TransferFn}
 use Rattle.sensitivity.specs.declared.LoopShaping.{LoopShaping}
-use Rattle.worked_cases.specs.Cases.{Bode, Sensitivity, Curve, sqrt, multiply, divide, reciprocal, magnitude, evalTfComplex, loopGainAt, sensitivityAt, compSensitivityAt, controlSensitivityAt, locusPoint, stabilityRegion, gainCrossover, phaseCrossover, gainMargin, phaseMargin, sensitivityCrossover, bandwidth, distanceToCritical, gainGrid, frequencyGrid, gainOfSummary, phaseOfSummary, crossoverOfSummary, bandwidthOfSummary, approachOfSummary, Row, _gives_}
+use Rattle.worked_cases.specs.Cases.{Bode, Sensitivity, Curve, sqrt, multiply, divide, reciprocal, magnitude, evalTfComplex, loopGainAt, sensitivityAt, compSensitivityAt, controlSensitivityAt, startAt, locusPoint, stabilityRegion, gainCrossover, phaseCrossover, gainMargin, phaseMargin, sensitivityCrossover, bandwidth, distanceToCritical, gainGrid, frequencyGrid, gainOfSummary, phaseOfSummary, crossoverOfSummary, bandwidthOfSummary, approachOfSummary, Row, _gives_}
 
 abbrev bits : ℕ → Float
 bits n = ofBits binary64 n
@@ -298,6 +298,43 @@ responses =
     (sensitivityAt loop12 cosines12 sines12 gives refused 13) ∷
     (compSensitivityAt loop12 cosines12 sines12 gives refused 13) ∷
     (controlSensitivityAt loop12 cosines12 sines12 gives refused 13) ∷
+    []
+
+-- ---- the starting points of the root search, all of them
+
+unfoldable pub starts : List Row
+unfolding ofBits
+starts =
+    (startAt 4 0 gives found (floats (0x3ff0_0000_0000_0000 ∷ 0x0000_0000_0000_0000 ∷ []))) ∷
+    (startAt 4 1 gives found (floats (0x3c91_a626_3314_5c07 ∷ 0x3ff0_0000_0000_0000 ∷ []))) ∷
+    (startAt 4 2 gives found (floats (0xbff0_0000_0000_0000 ∷ 0x3ca1_a626_3314_5c07 ∷ []))) ∷
+    (startAt 4 3 gives found (floats (0xbcaa_7939_4c9e_8a0a ∷ 0xbff0_0000_0000_0000 ∷ []))) ∷
+    (startAt 5 0 gives found (floats (0x3ff0_0000_0000_0000 ∷ 0x0000_0000_0000_0000 ∷ []))) ∷
+    (startAt 5 1 gives found (floats (0x3fd3_c6ef_372f_e950 ∷ 0x3fee_6f0e_1344_54ff ∷ []))) ∷
+    (startAt 5 2 gives found (floats (0xbfe9_e377_9b97_f4a7 ∷ 0x3fe2_cf23_0475_5a5f ∷ []))) ∷
+    (startAt 5 3 gives found (floats (0xbfe9_e377_9b97_f4a9 ∷ 0xbfe2_cf23_0475_5a5d ∷ []))) ∷
+    (startAt 5 4 gives found (floats (0x3fd3_c6ef_372f_e94c ∷ 0xbfee_6f0e_1344_5500 ∷ []))) ∷
+    (startAt 6 0 gives found (floats (0x3ff0_0000_0000_0000 ∷ 0x0000_0000_0000_0000 ∷ []))) ∷
+    (startAt 6 1 gives found (floats (0x3fe0_0000_0000_0001 ∷ 0x3feb_b67a_e858_4caa ∷ []))) ∷
+    (startAt 6 2 gives found (floats (0xbfdf_ffff_ffff_fffc ∷ 0x3feb_b67a_e858_4cab ∷ []))) ∷
+    (startAt 6 3 gives found (floats (0xbff0_0000_0000_0000 ∷ 0x3ca1_a626_3314_5c07 ∷ []))) ∷
+    (startAt 6 4 gives found (floats (0xbfe0_0000_0000_0004 ∷ 0xbfeb_b67a_e858_4ca8 ∷ []))) ∷
+    (startAt 6 5 gives found (floats (0x3fe0_0000_0000_0001 ∷ 0xbfeb_b67a_e858_4caa ∷ []))) ∷
+    (startAt 7 0 gives found (floats (0x3ff0_0000_0000_0000 ∷ 0x0000_0000_0000_0000 ∷ []))) ∷
+    (startAt 7 1 gives found (floats (0x3fe3_f3a0_e28b_edd2 ∷ 0x3fe9_04c3_7505_de4b ∷ []))) ∷
+    (startAt 7 2 gives found (floats (0xbfcc_7b90_e302_4580 ∷ 0x3fef_329c_0558_e969 ∷ []))) ∷
+    (startAt 7 3 gives found (floats (0xbfec_d4bc_a9cb_5c70 ∷ 0x3fdb_c4c0_4d71_abc3 ∷ []))) ∷
+    (startAt 7 4 gives found (floats (0xbfec_d4bc_a9cb_5c71 ∷ 0xbfdb_c4c0_4d71_abbf ∷ []))) ∷
+    (startAt 7 5 gives found (floats (0xbfcc_7b90_e302_4589 ∷ 0xbfef_329c_0558_e969 ∷ []))) ∷
+    (startAt 7 6 gives found (floats (0x3fe3_f3a0_e28b_edd0 ∷ 0xbfe9_04c3_7505_de4c ∷ []))) ∷
+    (startAt 8 0 gives found (floats (0x3ff0_0000_0000_0000 ∷ 0x0000_0000_0000_0000 ∷ []))) ∷
+    (startAt 8 1 gives found (floats (0x3fe6_a09e_667f_3bcd ∷ 0x3fe6_a09e_667f_3bcc ∷ []))) ∷
+    (startAt 8 2 gives found (floats (0x3c91_a626_3314_5c07 ∷ 0x3ff0_0000_0000_0000 ∷ []))) ∷
+    (startAt 8 3 gives found (floats (0xbfe6_a09e_667f_3bcc ∷ 0x3fe6_a09e_667f_3bcd ∷ []))) ∷
+    (startAt 8 4 gives found (floats (0xbff0_0000_0000_0000 ∷ 0x3ca1_a626_3314_5c07 ∷ []))) ∷
+    (startAt 8 5 gives found (floats (0xbfe6_a09e_667f_3bce ∷ 0xbfe6_a09e_667f_3bcc ∷ []))) ∷
+    (startAt 8 6 gives found (floats (0xbcaa_7939_4c9e_8a0a ∷ 0xbff0_0000_0000_0000 ∷ []))) ∷
+    (startAt 8 7 gives found (floats (0x3fe6_a09e_667f_3bcb ∷ 0xbfe6_a09e_667f_3bce ∷ []))) ∷
     []
 
 -- ---- points of degrees 1 and 2; leading coefficients that are dropped; a cubic; refusals
@@ -1134,4 +1171,4 @@ summaries =
 -- ---- all of them
 
 unfoldable pub asked : List Row
-asked = squareRoots ++ complexNumbers ++ responses ++ formulas ++ quartic ++ quintic ++ sextic ++ septic ++ octic ++ searches ++ regions ++ scans ++ grids ++ summaries
+asked = squareRoots ++ complexNumbers ++ responses ++ starts ++ formulas ++ quartic ++ quintic ++ sextic ++ septic ++ octic ++ searches ++ regions ++ scans ++ grids ++ summaries

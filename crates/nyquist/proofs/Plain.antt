@@ -31,6 +31,11 @@ pub plain-places : (s : CurveSummary)
 unfolding plainOf
 plain-places s = refl
 
+-- the mark of a point that was found
+pub found-marks : (z : Complex) → plain-type.struct .as-values (plainOf (record { nearest = Point z })) ≡ (1, (0, (z .re, (z .im, tt))))
+unfolding plainOf
+found-marks z = refl
+
 -- all zeros are the summary of no points
 pub empty-zeros : plain-type.struct .as-values (plainOf (summaryOf [] false)) ≡ (0, (0, (f0, (f0, tt))))
 unfolding plainOf summaryOf nearestOf fromReal

@@ -6,26 +6,24 @@
 -- generated `Learnt` of `empty`, `feed` and `join` is what a caller learns of a call, whatever it returned.
 -- The claim is `demand-3`: whatever summary the calls leave, and whatever the two answers then return, `Claim c s` holds. `run-reached` says that every
 -- list of calls leaves a summary. Assumes nothing.
-use mathlib.Core.Path.{_≡_, refl, sym, _∙_}
-use mathlib.Core.Bool.{Bool, true, false}
-use mathlib.Core.List.{List, [], _∷_}
-use native.Mathlib.Omega.{arith}
-use Rattle.laws.specs.Outcome.{none}
-use Rattle.laws.proofs.Outcome.{apart}
+use Prim.Native.Nat.{ℕ}
+use mathlib.Core.Path.{_≡_, refl, sym, ap, _∙_}
+use mathlib.Core.Bool.{true, false}
+use mathlib.Core.List.{[], _∷_}
+use Rattle.laws.specs.Outcome.{Outcome, none}
 use Rattle.sweep.specs.Answer.{crossingOutcome, keptOutcome, notKept}
 use Rattle.sweep.specs.Runs.{Calls, mark, Reached, leftAfter, runOf, Returned, FedLists}
 use Rattle.sweep.specs.Scan.{Neighbours}
 use Rattle.sweep.specs.declared.Crossing.{Crossing}
 use Rattle.sweep.specs.declared.Kept.{Kept}
 use Rattle.sweep.proofs.Conditions.{lists-checked}
-use Rattle.sweep.proofs.Scans.{crossing-kept}
 use Rattle.sweep.proofs.Runs.{whole, left-stays, result-says, fed-lists, ran-reached}
 use Rattle.sensitivity.specs.Scans.{equalCrosses, sensitivityCrossover, levelOf, drops, bandwidthOf}
 use Rattle.sensitivity.specs.Summary.{summaryOf, fedBy, joinOf, numberOfFed, leftBy, crossoverAnswer, bandwidthAnswer, bandwidthOutcome, Part, partRefusal, partReadings, bookOf}
 use Rattle.sensitivity.specs.declared.Reading.{Reading}
 use Rattle.sensitivity.specs.declared.summary.SensitivitySummary.{SensitivitySummary}
 use Rattle.sensitivity.specs.declared.summary.SensitivityFed.the-variants.{Taken, Refused}
-use Rattle.sensitivity.proofs.Laws.{no-crossover-in, none-of-crossover, no-bandwidth-in, none-of-bandwidth}
+use Rattle.sensitivity.proofs.Laws.{no-crossover-in, none-of-crossover, no-bandwidth-in, none-of-bandwidth, under-mark, without-mark, only-under-mark, none-unmarked}
 use Rattle.sensitivity.proofs.Joins.{fed-append, join-append, crossover-answer, bandwidth-answer}
 use Rattle.sensitivity.proofs.summary.SensitivitySummary.empty.Reads as empty-reads
 use Rattle.sensitivity.proofs.summary.SensitivitySummary.feed.Reads as feed-reads
@@ -86,25 +84,6 @@ summary-of-book r =
     whole summaryOf fedBy joinOf fed-append join-append partRefusal partReadings
     (λ s h. h .learnt) (λ l m p t h. h .after ∙ h .call .learnt .1) (λ s t u h. h .learnt) r
 
--- the bandwidth of a book under a mark: 101 exactly under it, and 100 only without it
-under-mark : (m : Bool) (l : List Reading) → m ≡ true → bandwidthOutcome m l ≡ notKept
-unfolding bandwidthOutcome
-under-mark m l h = rw h
-
-without-mark : (m : Bool) (l : List Reading) → m ≡ false → bandwidthOutcome m l ≡ crossingOutcome (bandwidthOf l)
-unfolding bandwidthOutcome
-without-mark m l h = rw h
-
-only-under-mark : (m : Bool) (l : List Reading) → bandwidthOutcome m l ≡ notKept → m ≡ true
-unfolding bandwidthOutcome
-only-under-mark true l h = refl
-only-under-mark false l h = absurd (crossing-kept (bandwidthOf l) h)
-
-none-unmarked : (m : Bool) (l : List Reading) → bandwidthOutcome m l ≡ none → crossingOutcome (bandwidthOf l) ≡ none
-unfolding bandwidthOutcome
-none-unmarked true l h = absurd (apart (sym h) (omega arith))
-none-unmarked false l h = h
-
 pub demand-3 : (c : Calls Part) (s : SensitivitySummary) → Reaches c s → Claim c s
 unfolding crossoverAnswer bandwidthAnswer partRefusal partReadings
 demand-3 c s h =
@@ -116,13 +95,16 @@ demand-3 c s h =
       crossover-none = λ r g e. crossover-is r g ∙ none-of-crossover (bookOf c) e;
       bandwidth = λ r g e. bandwidth-is r g ∙ without-mark (mark c) (bookOf c) e;
       bandwidth-marked = λ r g e. bandwidth-is r g ∙ under-mark (mark c) (bookOf c) e;
-      only-marked = λ r g e. only-under-mark (mark c) (bookOf c) (sym (bandwidth-is r g) ∙ e);
-      no-bandwidth = λ r g e. no-bandwidth-in (bookOf c) (none-unmarked (mark c) (bookOf c) (sym (bandwidth-is r g) ∙ e));
+      only-marked = λ r g e. only-under-mark (mark c) (bookOf c) (ap number (sym (bandwidth-is r g) ∙ e));
+      no-bandwidth = λ r g e. no-bandwidth-in (bookOf c) (none-unmarked (mark c) (bookOf c) (ap number (sym (bandwidth-is r g) ∙ e)));
       bandwidth-none = λ r g e f. bandwidth-is r g ∙ without-mark (mark c) (bookOf c) e ∙ none-of-bandwidth (bookOf c) f;
       feed-number = λ f. f .call .learnt .0;
       feed-refused = stays;
     }
   where
+    number : Outcome → ℕ
+    number o = o .number
+
     crossover-is : (r : Crossing) → CrossoverOf s r → crossingOutcome r ≡ crossingOutcome (sensitivityCrossover (bookOf c))
     crossover-is r g = rw (summary-of-book h, crossover-answer) at (g .learnt)
 

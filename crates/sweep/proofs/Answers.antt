@@ -1,12 +1,12 @@
 -- An answer is known by its outcome, and a scan's outcome by its conditions. Assumes nothing.
 use Prim.Native.Nat.{ℕ}
 use mathlib.Core.Path.{_≡_, refl, sym, ap, _∙_}
-use mathlib.Core.List.{List, []}
+use mathlib.Core.List.{List, [], _∷_}
 use native.Mathlib.Omega.{arith}
 use borrow.Author.Tests.{ne-eqb}
 use lib.Ieee.{Float}
 use Rattle.laws.specs.Loops.{filled}
-use Rattle.laws.specs.Outcome.{Outcome, answered}
+use Rattle.laws.specs.Outcome.{Outcome, none, answered, Answers}
 use Rattle.laws.proofs.Outcome.{found-values, apart}
 use Rattle.sweep.specs.Refusal.{numberOf, refusalOf}
 use Rattle.sweep.specs.Answer.{outcomeOf, crossingOutcome, keptOutcome, scanned, outcomeOfGrid, gridded}
@@ -60,6 +60,31 @@ grid-known grid.Filled grid.Filled h = refl
 grid-known grid.Filled (grid.Refused f) h = absurd (apart h (number-above f))
 grid-known (grid.Refused e) grid.Filled h = absurd (apart (sym h) (number-above e))
 grid-known (grid.Refused e) (grid.Refused f) h = ap grid.Refused (number-known e f (ap (λ (o : Outcome). o .number) h))
+
+-- ---- crossings as a host has them: a number that is returned, and a place
+
+-- every crossing has such an answer
+pub crossing-there : (c : Crossing) (before : Float) → (r : ℕ) × ((after : Float) × Answers (crossingOutcome c) r (before ∷ []) (after ∷ []))
+unfolding crossingOutcome
+crossing-there (crossing.At x) before = (0, (x, record { number = refl; place = refl }))
+crossing-there crossing.Missing before = (100, (before, record { number = refl; place = refl }))
+
+pub kept-there : (k : Kept) (before : Float) → (r : ℕ) × ((after : Float) × Answers (keptOutcome k) r (before ∷ []) (after ∷ []))
+unfolding keptOutcome
+kept-there (kept.Found x) before = (0, (x, record { number = refl; place = refl }))
+kept-there kept.Absent before = (100, (before, record { number = refl; place = refl }))
+kept-there kept.NotKept before = (101, (before, record { number = refl; place = refl }))
+
+-- 100 is "none", and no crossing is 101
+pub crossing-none : (c : Crossing) → crossingOutcome c .number ≡ 100 → crossingOutcome c ≡ none
+unfolding crossingOutcome
+crossing-none (crossing.At x) h = absurd (omega arith)
+crossing-none crossing.Missing h = refl
+
+pub crossing-kept : (c : Crossing) → crossingOutcome c .number ≡ 101 → ⊥
+unfolding crossingOutcome
+crossing-kept (crossing.At x) h = omega arith
+crossing-kept crossing.Missing h = omega arith
 
 pub not-zero : (e : FreqError) → numberOf e ≡ 0 → ⊥
 not-zero e h = let p = number-above e in omega arith

@@ -12,7 +12,7 @@ use lib.ListN.{length, getD, List·getD-eq-default}
 use lib.Ieee.{Float, nan}
 use Rattle.laws.specs.Outcome.{none}
 use Rattle.laws.proofs.Outcome.{apart}
-use Rattle.sweep.specs.Answer.{crossingOutcome, notKept, keptOutcome, keptOf, orKept}
+use Rattle.sweep.specs.Answer.{crossingOutcome, keptOutcome, keptOf, orKept}
 use Rattle.sweep.specs.Refusal.{SameLength}
 use Rattle.sweep.specs.Scan.{orElse, firstFrom, firstPair, notEmpty, crossingAt, Neighbours, crossIf, zip3, at3, firstWhere}
 use Rattle.sweep.proofs.Search.{both-more}
@@ -38,12 +38,6 @@ pub kept-or : (a b : Crossing) → orKept (keptOf a) b ≡ keptOf (orElse a b)
 unfolding orKept keptOf
 kept-or (At w) b = refl
 kept-or Missing b = refl
-
--- a crossing is never "not kept"
-pub crossing-kept : (c : Crossing) → crossingOutcome c ≡ notKept → ⊥
-unfolding crossingOutcome
-crossing-kept (At w) h = apart h (omega arith)
-crossing-kept Missing h = apart h (omega arith)
 
 -- ---- one list behind another
 module _ {R : Type 0} where

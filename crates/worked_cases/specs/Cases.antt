@@ -29,6 +29,7 @@ use Rattle.nyquist.specs.Summary as curve-summary
 use Rattle.nyquist.specs.declared.summary.CurveSummary.{CurveSummary}
 use Rattle.root_locus.specs.Gain as gain
 use Rattle.root_locus.specs.Polynomial.{loopPolynomial}
+use Rattle.root_locus.specs.StartingPoints.{startingPoint}
 use Rattle.root_locus.specs.Stability.{stable}
 use Rattle.root_locus.specs.Locus.{Point, locusPointAt}
 
@@ -52,8 +53,8 @@ Sensitivity = sensitivity-summary.Part
 abbrev pub Curve : Type 0
 Curve = curve-summary.Part
 
--- The functions by their names in the Rust. A locus point is point i of n up to k_max, and `stabilityAt` is the stability of its poles; a grid has
--- its top, its n and the lent list. The last five are answers of a summary after a list of calls.
+-- The functions by their names in the Rust. A locus point is point i of n up to k_max, `stabilityAt` is the stability of its poles, and `startAt` is where the
+-- search of a degree starts for root i; a grid has its top, its n and the lent list. The last five are answers of a summary after a list of calls.
 pub data Case : Type 0 where
   sqrt : Float → Case
   multiply divide : Pair → Pair → Case
@@ -62,6 +63,7 @@ pub data Case : Type 0 where
   loopGainAt sensitivityAt compSensitivityAt controlSensitivityAt : LoopShaping → List Float → List Float → Case
   polynomial : TransferFn → Float → Case
   locusPoint stabilityAt : TransferFn → Float → ℕ → ℕ → Case
+  startAt : ℕ → ℕ → Case
   stabilityRegion : List Pair → ℕ → Case
   gainCrossover phaseCrossover gainMargin phaseMargin : Bode → Case
   sensitivityCrossover bandwidth : Sensitivity → Case
@@ -126,6 +128,7 @@ outcome (controlSensitivityAt l cosines sines) = responseBy controlSensitivity l
 outcome (polynomial f k) = found (loopPolynomial f k)
 outcome (locusPoint f k-max n i) = pointOutcome (locusPointAt f k-max n i)
 outcome (stabilityAt f k-max n i) = let p = locusPointAt f k-max n i in truth (stable (p .poles) (p .count))
+outcome (startAt degree i) = found (valuesOf (startingPoint degree i))
 outcome (stabilityRegion poles count) = truth (stable (map complexOf poles) count)
 outcome (gainCrossover p) = scannedBy bode.reading bode.gainCrossover (p .omega) (p .db) (p .phase)
 outcome (phaseCrossover p) = scannedBy bode.reading bode.phaseCrossover (p .omega) (p .db) (p .phase)

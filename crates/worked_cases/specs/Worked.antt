@@ -1,15 +1,16 @@
--- The cases that document 01 works by hand, those with a star, row for row; then the same sweeps cut, fed and joined. Definitions only.
+-- The cases that document 01 works by hand, those with a star, row for row; then the same sweeps cut, fed and joined; then its other cases, and each refusal by its
+-- number. Definitions only.
 use Prim.Native.Nat.{ℕ, _^_}
 use mathlib.Core.Bool.{true, false}
 use mathlib.Core.List.{List, [], _∷_}
-use lib.ListN.{take, drop}
+use lib.ListN.{take, drop, replicate}
 use lib.Ieee.{Float, nan, binary64, round, neg}
 use Rattle.laws.specs.Outcome.{Outcome, found, none}
 use Rattle.sweep.specs.Answer.{notKept}
 use Rattle.sweep.specs.Runs.{Calls, start, feed, join}
 use Rattle.transfer_fn.specs.declared.TransferFn.{TransferFn}
 use Rattle.sensitivity.specs.declared.LoopShaping.{LoopShaping}
-use Rattle.worked_cases.specs.Cases.{Bode, Sensitivity, Curve, tf, sqrt, multiply, divide, loopGainAt, sensitivityAt, compSensitivityAt, controlSensitivityAt, polynomial, locusPoint, stabilityAt, stabilityRegion, gainCrossover, phaseCrossover, gainMargin, phaseMargin, bandwidth, distanceToCritical, gainOfSummary, phaseOfSummary, bandwidthOfSummary, approachOfSummary, Row, _gives_}
+use Rattle.worked_cases.specs.Cases.{Bode, Sensitivity, Curve, tf, sqrt, multiply, divide, evalTfComplex, loopGainAt, sensitivityAt, compSensitivityAt, controlSensitivityAt, polynomial, locusPoint, stabilityAt, stabilityRegion, gainCrossover, phaseCrossover, gainMargin, phaseMargin, bandwidth, distanceToCritical, gainGrid, frequencyGrid, gainOfSummary, phaseOfSummary, bandwidthOfSummary, approachOfSummary, Row, _gives_}
 
 -- ---- how numbers are written
 
@@ -47,6 +48,10 @@ cosines = + 1 ∷ + 1 ∷ []
 
 abbrev sines : List Float
 sines = - 0 ∷ - 0 ∷ []
+
+-- b 0, a 0, of any order
+abbrev ofOrder : ℕ → TransferFn
+ofOrder n = tf (replicate n (+ 0)) (replicate n (+ 0))
 
 -- ω 1, 2, 4, 8; dB 6, 2, -2, -10; phase -90, -120, -160, -200
 abbrev rising : Bode
@@ -120,6 +125,10 @@ isStable = found (+ 1 ∷ [])
 abbrev notStable : Outcome
 notStable = found (+ 0 ∷ [])
 
+-- a number as document 01 has it, and values or a lent list as the call leaves it
+abbrev number : ℕ → List Float → Outcome
+number n values = record { number = n; values = values }
+
 -- ---- the table. A locus point is named by its gain there: it is point 1 of 2 up to that gain, and for gain 0 point 0.
 
 unfoldable pub worked : List Row
@@ -183,4 +192,33 @@ worked =
     (approachOfSummary (fed (cutCurve 1 twoPoints)) gives found (1 over 2 ∷ [])) ∷
     (approachOfSummary (joined (cutCurve 1 twoPoints)) gives found (1 over 2 ∷ [])) ∷
     (approachOfSummary (feed start noPoints) gives found (+ 0 ∷ [])) ∷
+    -- 0 and a value, 100 for none, 101 for not kept.
+    (gainCrossover rising gives number 0 (+ 3 ∷ [])) ∷
+    (bandwidth single gives number 100 []) ∷
+    (bandwidthOfSummary (joined (cutSensitivity 2 dropping)) gives number 101 []) ∷
+    -- Gain grid, k_max 8, n 5: 0, 2, 4, 6, 8; a sixth place stays. n 1: 1. n 4,096 wants room, 4,097: 15. A top of 0: 3, of frequencies 2.
+    (gainGrid (+ 8) 5 (replicate 6 (+ 9)) gives number 0 (+ 0 ∷ + 2 ∷ + 4 ∷ + 6 ∷ + 8 ∷ + 9 ∷ [])) ∷
+    (gainGrid (- 0) 1 (+ 9 ∷ []) gives number 1 (+ 9 ∷ [])) ∷
+    (gainGrid (- 0) 4097 (+ 9 ∷ []) gives number 3 (+ 9 ∷ [])) ∷
+    (frequencyGrid (- 0) 4097 (+ 9 ∷ []) gives number 2 (+ 9 ∷ [])) ∷
+    (gainGrid nan 4097 (+ 9 ∷ []) gives number 15 (+ 9 ∷ [])) ∷
+    (gainGrid (+ 8) 4096 (+ 9 ∷ []) gives number 14 (+ 9 ∷ [])) ∷
+    -- A list of another length: 11, whichever it is.
+    (gainCrossover (record { omega = []; db = []; phase = + 0 ∷ [] }) gives number 11 []) ∷
+    (bandwidth (record { omega = []; s = + 0 ∷ []; t = [] }) gives number 11 []) ∷
+    (distanceToCritical (record { re = + 0 ∷ []; im = [] }) gives number 11 []) ∷
+    -- Evaluation: order 9 gives 16, before 11 for a list more and 13 for too few; order 8 is not turned away for its order.
+    (evalTfComplex (ofOrder 9) (+ 1 ∷ []) [] gives number 16 []) ∷
+    (evalTfComplex (ofOrder 8) (+ 1 ∷ []) [] gives number 11 []) ∷
+    (evalTfComplex (ofOrder 1) (+ 1 ∷ []) (- 0 ∷ []) gives number 13 []) ∷
+    -- A sum from zero: order 1, b -0, a 0.5, pairs (1, -0), (0, -1).
+    (evalTfComplex (tf (- 0 ∷ []) (1 over 2 ∷ [])) (+ 1 ∷ + 0 ∷ []) (- 0 ∷ - 1 ∷ []) gives found (+ 0 ∷ + 0 ∷ [])) ∷
+    -- Locus point: 1, 3 for k_max, 3 for order 9, 16 for order 0, 15, 17, 12, each before the next.
+    (locusPoint (ofOrder 9) (- 0) 1 4097 gives number 1 []) ∷
+    (locusPoint (ofOrder 0) (- 0) 4097 4097 gives number 3 []) ∷
+    (locusPoint (ofOrder 9) (+ 1) 4097 4097 gives number 3 []) ∷
+    (locusPoint (ofOrder 0) (+ 1) 4097 4097 gives number 16 []) ∷
+    (locusPoint (ofOrder 3) nan 4097 4097 gives number 15 []) ∷
+    (locusPoint (ofOrder 3) nan 4096 4096 gives number 17 []) ∷
+    (locusPoint (ofOrder 3) nan 4096 4095 gives number 12 []) ∷
     []

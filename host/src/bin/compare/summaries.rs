@@ -87,13 +87,14 @@ impl Summary for Bode {
             read,
             gain_found,
             phase_found,
+            reserved,
             first,
             last,
             gain,
             phase,
         } = self.0;
         let numbers = |reading: Reading| [reading.omega, reading.db, reading.phase];
-        let marks = [read, gain_found, phase_found];
+        let marks = [read, gain_found, phase_found, reserved];
         held(marks, [numbers(first), numbers(last)], [gain, phase])
     }
 }
@@ -142,13 +143,14 @@ impl Summary for Sensitivity {
             read,
             crossover_found,
             bandwidth_state,
+            reserved,
             first,
             last,
             crossover,
             bandwidth,
         } = self.0;
         let numbers = |reading: SensitivityReading| [reading.omega, reading.s, reading.t];
-        let marks = [read, crossover_found, bandwidth_state];
+        let marks = [read, crossover_found, bandwidth_state, reserved];
         held(
             marks,
             [numbers(first), numbers(last)],
@@ -189,12 +191,18 @@ impl Summary for Curve {
     }
 
     fn held(&self) -> Vec<u64> {
-        let CurvePlain { found, re, im } = self.0;
-        vec![u64::from(found), re.to_bits(), im.to_bits()]
+        let CurvePlain {
+            found,
+            reserved,
+            re,
+            im,
+        } = self.0;
+        let marks = [found, reserved].map(u64::from);
+        marks.into_iter().chain([re, im].map(f64::to_bits)).collect()
     }
 }
 
-fn held(marks: [u32; 3], readings: [[f64; 3]; 2], answers: [f64; 2]) -> Vec<u64> {
+fn held(marks: [u32; 4], readings: [[f64; 3]; 2], answers: [f64; 2]) -> Vec<u64> {
     let numbers = readings.into_iter().flatten().chain(answers);
     let marks = marks.into_iter().map(u64::from);
     marks.chain(numbers.map(f64::to_bits)).collect()

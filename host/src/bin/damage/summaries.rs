@@ -42,6 +42,7 @@ fn any_bode(random: &mut Random) -> BodePlain {
         read: mark(random),
         gain_found: mark(random),
         phase_found: mark(random),
+        reserved: mark(random),
         first: reading(random),
         last: reading(random),
         gain: number(random),
@@ -68,6 +69,7 @@ fn any_sensitivity(random: &mut Random) -> SensitivityPlain {
         read: mark(random),
         crossover_found: mark(random),
         bandwidth_state: mark(random),
+        reserved: mark(random),
         first: sensitivity_reading(random),
         last: sensitivity_reading(random),
         crossover: number(random),
@@ -92,6 +94,7 @@ pub fn sensitivity(random: &mut Random) {
 fn any_curve(random: &mut Random) -> CurvePlain {
     CurvePlain {
         found: mark(random),
+        reserved: mark(random),
         re: number(random),
         im: number(random),
     }

@@ -8,7 +8,7 @@ use Rattle.c_summaries.proofs.sensitivity_summary.put_fed.Tie as tie
 
 returns : tie.Need-returns
 unfolding fedSensitivity numberOfFed leftBy leftAfter
-returns c = rw (c .before .before .fed .given .1) (λ i. record { number = 0; summary = c .to-plain .ensures i })
+returns c = rw (c .before .before .fed .given .1) (λ i. record { number = 0; reserved = 0; summary = c .to-plain .ensures i })
 
 returns-2 : tie.Need-returns-2
 unfolding fedSensitivity numberOfFed leftBy
