@@ -20,13 +20,18 @@ use archives::{file, Archives};
 const EXPORTING: [&str; 3] = ["c_api", "c_summaries", "panel"];
 
 fn main() {
-    if let Err(line) = link() {
-        eprintln!("{line}");
-        process::exit(1);
+    let mut printed = false;
+    if let Err(line) = link(&mut printed) {
+        println!("cargo::error={line}");
+        // Cargo shows the lines of `rt` only of a script that fails.
+        if printed {
+            process::exit(1);
+        }
     }
 }
 
-fn link() -> Result<(), String> {
+/// Whether lines of `rt` were printed is left in `printed`.
+fn link(printed: &mut bool) -> Result<(), String> {
     let host = folder("CARGO_MANIFEST_DIR")?;
     let out = folder("OUT_DIR")?;
     let archives = Archives {
@@ -37,6 +42,7 @@ fn link() -> Result<(), String> {
     };
     let mut terminal = terminal();
     let made = archives.get(&mut |line| {
+        *printed = true;
         eprintln!("{line}");
         if let Some(terminal) = &mut terminal {
             // In the place of cargo's bar, which cargo draws again. What cannot be shown is not shown.

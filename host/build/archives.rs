@@ -99,7 +99,8 @@ impl Archives<'_> {
         };
         if !said.status.success() {
             let why = String::from_utf8_lossy(&said.stderr);
-            return Err(format!("`rt version` failed: {}", why.trim()));
+            let why = why.lines().next().unwrap_or("it says nothing");
+            return Err(format!("`rt version` failed: {why}"));
         }
         Ok(Some(String::from_utf8_lossy(&said.stdout).trim().into()))
     }

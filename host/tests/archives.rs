@@ -250,6 +250,19 @@ fn without_rt() {
     assert_eq!(repository.get().unwrap_err(), line);
 }
 
+#[test]
+fn an_rt_that_fails() {
+    let repository = Repository::new("fails");
+    repository.rt(
+        "kit 1'; echo 'rt: no kit' >&2; echo more >&2; exit 2; '",
+        "",
+    );
+    assert_eq!(
+        repository.get().unwrap_err(),
+        "`rt version` failed: rt: no kit"
+    );
+}
+
 /// What is kept is used only where it has the digest it was kept with.
 #[test]
 fn a_damaged_archive_is_not_used() {
