@@ -164,13 +164,13 @@ fn any_change_of_what_decides_is_seen() {
     changed("another folder");
     fs::remove_file(repository.path("crates/high/specs/moved.rt")).unwrap();
     changed("one file less");
-    // What ends one file begins the next.
-    repository.write("crates/low/src/a", "xy");
-    repository.write("crates/low/src/b", "z");
-    changed("two files");
+    // One file that holds what two held, the name between them too.
     repository.write("crates/low/src/a", "x");
-    repository.write("crates/low/src/b", "yz");
-    changed("a byte from one to the next");
+    repository.write("crates/low/src/b", "y");
+    changed("two files");
+    fs::remove_file(repository.path("crates/low/src/b")).unwrap();
+    repository.write("crates/low/src/a", "xlow/src/by");
+    changed("one file with the contents of two");
 
     let before = repository.sources();
     for beside in ["must-fail/a.edit", "stdin", "stdout", "data/a"] {
@@ -178,7 +178,7 @@ fn any_change_of_what_decides_is_seen() {
     }
     assert_eq!(repository.sources(), before);
     // Not the time of a file, nor where the repository is.
-    repository.write("crates/low/src/a", "x");
+    repository.write("crates/low/src/a", "xlow/src/by");
     let elsewhere = place("changes_elsewhere");
     let _ = fs::remove_dir_all(&elsewhere);
     fs::rename(&repository.0, &elsewhere).unwrap();
