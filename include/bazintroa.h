@@ -6,17 +6,22 @@
  * libc_summaries.a and the panel in libpanel.a, which `rt staticlib` writes likewise.
  *
  * Numbers. A function that may turn a call away returns
- *     0     a result: the places have been written
- *     100   none: no crossing, no margin, no quotient
- *     101   not kept: the bandwidth of a summary after a join
+ *     0    BAZINTROA_OK                       a result: the places have been written
+ *     100  BAZINTROA_NONE                     no crossing, no margin, no quotient
+ *     101  BAZINTROA_NOT_KEPT                 the bandwidth of a summary after a join
  *     or the first refusal that applies:
- *     1     fewer than two points                     14    the lent list is too short
- *     2     a top frequency 0 or below; a NaN passes  15    more than 4,096 readings or points
- *     3     a parameter out of range                  16    an order out of range
- *     11    lists of different lengths                17    an index out of range
- *     12    degree 3 is left out                      19    not a whole number of readings in bytes
- *     13    too few cosines and sines
- * On any number but 0 nothing is written.
+ *     1    BAZINTROA_INSUFFICIENT_POINTS      fewer than two points
+ *     2    BAZINTROA_INVALID_FREQUENCY_RANGE  a top frequency 0 or below; a NaN passes
+ *     3    BAZINTROA_INVALID_PARAMETER        a parameter out of range
+ *     11   BAZINTROA_LENGTHS_DIFFER           lists of different lengths
+ *     12   BAZINTROA_CUBIC_LEFT_OUT           degree 3 is left out
+ *     13   BAZINTROA_TOO_FEW_PAIRS            too few cosines and sines
+ *     14   BAZINTROA_NO_ROOM                  the lent list is too short
+ *     15   BAZINTROA_TOO_MANY                 more than 4,096 readings or points
+ *     16   BAZINTROA_WRONG_ORDER              an order out of range
+ *     17   BAZINTROA_WRONG_INDEX              an index out of range
+ *     19   BAZINTROA_WRONG_BYTE_COUNT         not a whole number of readings in bytes
+ * On any number but 0 nothing is written. More refusals may come.
  *
  * Memory. The caller owns everything that it passes: a function reads and writes it during
  * the call and keeps nothing. A list is a pointer and its length; the pointer must not be
@@ -33,6 +38,29 @@
 #include <stdbool.h>
 #include <stddef.h>
 #include <stdint.h>
+
+#define BAZINTROA_VERSION "0.1.0"
+#define BAZINTROA_VERSION_MAJOR 0
+#define BAZINTROA_VERSION_MINOR 1
+#define BAZINTROA_VERSION_PATCH 0
+
+/* What a function returns, as the table above says. */
+#define BAZINTROA_OK 0u
+#define BAZINTROA_NONE 100u
+#define BAZINTROA_NOT_KEPT 101u
+
+/* The refusals. */
+#define BAZINTROA_INSUFFICIENT_POINTS 1u
+#define BAZINTROA_INVALID_FREQUENCY_RANGE 2u
+#define BAZINTROA_INVALID_PARAMETER 3u
+#define BAZINTROA_LENGTHS_DIFFER 11u
+#define BAZINTROA_CUBIC_LEFT_OUT 12u
+#define BAZINTROA_TOO_FEW_PAIRS 13u
+#define BAZINTROA_NO_ROOM 14u
+#define BAZINTROA_TOO_MANY 15u
+#define BAZINTROA_WRONG_ORDER 16u
+#define BAZINTROA_WRONG_INDEX 17u
+#define BAZINTROA_WRONG_BYTE_COUNT 19u
 
 #ifdef __cplusplus
 extern "C" {
@@ -164,8 +192,9 @@ bool bazintroa_stability_region(const double poles[16], size_t count);
  * 4,096 readings and joined with another, which puts that one's readings behind its own; it then
  * answers what the scan of the whole list would, whatever the cuts. The caller keeps it; its
  * size does not grow. Zeros are the empty summary. Content that no function here made gives
- * defined answers too: any mark but 0 says that what belongs to it counts, except that
- * `bandwidth_state` from 2 on says not kept.
+ * defined answers too: any mark but 0 is read as 1, except that `bandwidth_state` from 2 on says
+ * not kept. What belongs to a mark is taken as it is; bazintroa_curve_summary says what follows
+ * for a point that no feed would have kept.
  *
  * A feed returns a number and a summary: 0 and the summary with the part behind it, or a
  * refusal, 11 or 15, and the summary as it came. */
@@ -231,8 +260,11 @@ uint32_t bazintroa_sensitivity_summary_crossover(bazintroa_sensitivity_summary s
 /* 101 where a join is among the calls that made the summary. */
 uint32_t bazintroa_sensitivity_summary_bandwidth(bazintroa_sensitivity_summary s, double *out);
 
-/* The nearest point of a curve to (-1, 0), if one counts: a point whose distance is a NaN, or
- * whose square overflows, does not. */
+/* The nearest point of a curve to (-1, 0), if one counts: a point that is fed and whose squared
+ * distance is a NaN or infinite does not. A struct that a caller made up may hold such a point.
+ * Joined behind another summary it does not count. Where it comes first, a NaN stays whatever
+ * follows, and the closest approach is a NaN; an infinite one gives way to any point that counts,
+ * and as long as none does the closest approach is 0. */
 typedef struct {
     uint32_t found;
     uint32_t reserved; /* 0; never read */

@@ -4,7 +4,36 @@ use std::error::Error;
 use std::fmt;
 
 /// Why a call is turned away. A call that is turned away writes to nothing it was lent.
+///
+/// More refusals may come, so a match has an arm for those that it does not name:
+///
+/// ```
+/// use bazintroa::{phase_margin, Refusal};
+///
+/// let said = match phase_margin(&[1.0, 2.0], &[6.0, -2.0], &[-90.0]) {
+///     Ok(Some(margin)) => format!("{margin} degrees"),
+///     Ok(None) => "none".into(),
+///     Err(Refusal::TooMany) => "take fewer readings".into(),
+///     Err(other) => format!("refused with {}: {other}", other.number()),
+/// };
+/// assert_eq!(said, "refused with 11: the lists differ in length");
+/// ```
+///
+/// Without one it does not compile, though it names all that there are:
+///
+/// ```compile_fail,E0004
+/// use bazintroa::Refusal::{self, *};
+///
+/// fn is_of_lists(refusal: Refusal) -> bool {
+///     match refusal {
+///         LengthsDiffer | TooFewPairs | NoRoom | TooMany | WrongByteCount => true,
+///         InsufficientPoints | InvalidFrequencyRange | InvalidParameter => false,
+///         CubicLeftOut | WrongOrder | WrongIndex => false,
+///     }
+/// }
+/// ```
 #[derive(Clone, Copy, Debug, PartialEq, Eq, Hash)]
+#[non_exhaustive]
 #[repr(u32)]
 pub enum Refusal {
     /// 1: fewer than 2 points of a grid or a locus are asked for.

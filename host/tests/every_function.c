@@ -91,13 +91,13 @@ static void complex_numbers(void) {
     EXPECT(same(bazintroa_complex_magnitude_sq(w), 25));
 
     TRY(bazintroa_complex_reciprocal);
-    EXPECT(bazintroa_complex_reciprocal(one_one, answer) == 0 && is(answer, 0.5, -0.5));
-    EXPECT(bazintroa_complex_reciprocal(least, answer) == 0 && is(answer, 0x1p26, 0));
-    EXPECT(bazintroa_complex_reciprocal(less, pair) == 100 && left());
+    EXPECT(bazintroa_complex_reciprocal(one_one, answer) == BAZINTROA_OK && is(answer, 0.5, -0.5));
+    EXPECT(bazintroa_complex_reciprocal(least, answer) == BAZINTROA_OK && is(answer, 0x1p26, 0));
+    EXPECT(bazintroa_complex_reciprocal(less, pair) == BAZINTROA_NONE && left());
 
     TRY(bazintroa_complex_divide);
     EXPECT(bazintroa_complex_divide(product, w, answer) == 0 && is(answer, 1, 2));
-    EXPECT(bazintroa_complex_divide(product, zero, pair) == 100 && left());
+    EXPECT(bazintroa_complex_divide(product, zero, pair) == BAZINTROA_NONE && left());
 
     TRY(bazintroa_complex_divide_or_zero);
     bazintroa_complex_divide_or_zero(product, w, answer);
@@ -128,9 +128,12 @@ static void evaluation(void) {
     answer[0] = MARK;
     EXPECT(bazintroa_eval_tf_complex(one, half, 0, cosines_0, 1, sines_0, 1, answer) == 0);
     EXPECT(is(answer, 0, 0));
-    EXPECT(bazintroa_eval_tf_complex(one, half, 9, cosines_0, 2, sines_0, 1, pair) == 16 && left());
-    EXPECT(bazintroa_eval_tf_complex(one, half, 1, cosines_0, 2, sines_0, 1, pair) == 11 && left());
-    EXPECT(bazintroa_eval_tf_complex(one, half, 1, cosines_0, 1, sines_0, 1, pair) == 13 && left());
+    EXPECT(bazintroa_eval_tf_complex(one, half, 9, cosines_0, 2, sines_0, 1, pair)
+           == BAZINTROA_WRONG_ORDER && left());
+    EXPECT(bazintroa_eval_tf_complex(one, half, 1, cosines_0, 2, sines_0, 1, pair)
+           == BAZINTROA_LENGTHS_DIFFER && left());
+    EXPECT(bazintroa_eval_tf_complex(one, half, 1, cosines_0, 1, sines_0, 1, pair)
+           == BAZINTROA_TOO_FEW_PAIRS && left());
 }
 
 /* The loop that document 01 works by hand, with L = 1; one with L = -1, which leaves nothing to
@@ -142,9 +145,12 @@ static void evaluation(void) {
         EXPECT(is(answer, re, 0));                                                                    \
         EXPECT(function(one, none, 1, minus, none, 1, cosines_0, 2, sines_0, 2, answer) == 0);        \
         EXPECT(is(answer, less_re, 0));                                                               \
-        EXPECT(function(one, half, 1, c, none, 9, cosines_0, 2, sines_0, 1, pair) == 16 && left());   \
-        EXPECT(function(one, half, 1, c, none, 1, cosines_0, 2, sines_0, 1, pair) == 11 && left());   \
-        EXPECT(function(one, half, 1, c, none, 2, cosines_0, 2, sines_0, 2, pair) == 13 && left());   \
+        EXPECT(function(one, half, 1, c, none, 9, cosines_0, 2, sines_0, 1, pair)                     \
+               == BAZINTROA_WRONG_ORDER && left());                                                   \
+        EXPECT(function(one, half, 1, c, none, 1, cosines_0, 2, sines_0, 1, pair)                     \
+               == BAZINTROA_LENGTHS_DIFFER && left());                                                \
+        EXPECT(function(one, half, 1, c, none, 2, cosines_0, 2, sines_0, 2, pair)                     \
+               == BAZINTROA_TOO_FEW_PAIRS && left());                                                 \
     } while (0)
 
 static void responses(void) {
@@ -169,9 +175,10 @@ static const double s_db[3] = {-20, -3, 1}, t_db[3] = {0, -1, -5};
 /* What each scan of three lists refuses, and that one reading has no answer. */
 #define SCAN(function)                                                                                \
     do {                                                                                              \
-        EXPECT(function(omega, 4, db, 3, phase, 4, &out) == 11 && left());                            \
-        EXPECT(function(LISTS(long_list, long_list, long_list, 4097), &out) == 15 && left());         \
-        EXPECT(function(LISTS(omega, db, phase, 1), &out) == 100 && left());                          \
+        EXPECT(function(omega, 4, db, 3, phase, 4, &out) == BAZINTROA_LENGTHS_DIFFER && left());      \
+        EXPECT(function(LISTS(long_list, long_list, long_list, 4097), &out)                           \
+               == BAZINTROA_TOO_MANY && left());                                                      \
+        EXPECT(function(LISTS(omega, db, phase, 1), &out) == BAZINTROA_NONE && left());               \
     } while (0)
 
 static void scans(void) {
@@ -199,7 +206,8 @@ static void scans(void) {
     TRY(bazintroa_phase_margin);
     EXPECT(bazintroa_phase_margin(LISTS(omega, db, phase, 4), &x) == 0 && x == 40);
     EXPECT(bazintroa_phase_margin(LISTS(omega_back, db_back, phase_back, 4), &x) == 0 && x == 60);
-    EXPECT(bazintroa_phase_margin(LISTS(omega_past, db_past, phase, 2), &out) == 100 && left());
+    EXPECT(bazintroa_phase_margin(LISTS(omega_past, db_past, phase, 2), &out)
+           == BAZINTROA_NONE && left());
     SCAN(bazintroa_phase_margin);
 
     TRY(bazintroa_sensitivity_crossover);
@@ -222,13 +230,14 @@ static void curves_and_readings(void) {
     EXPECT(bazintroa_distance_to_critical(re, 0, im, 0, &x) == 0 && x == 0);
     x = MARK;
     EXPECT(bazintroa_distance_to_critical(far, 2, zero, 2, &x) == 0 && x == 0);
-    EXPECT(bazintroa_distance_to_critical(re, 2, im, 1, &out) == 11 && left());
-    EXPECT(bazintroa_distance_to_critical(long_list, 4097, long_list, 4097, &out) == 15 && left());
+    EXPECT(bazintroa_distance_to_critical(re, 2, im, 1, &out) == BAZINTROA_LENGTHS_DIFFER && left());
+    EXPECT(bazintroa_distance_to_critical(long_list, 4097, long_list, 4097, &out)
+           == BAZINTROA_TOO_MANY && left());
 
     TRY(bazintroa_gain_crossover_readings);
     EXPECT(bazintroa_gain_crossover_readings(readings, 4, &x) == 0 && x == 3);
-    EXPECT(bazintroa_gain_crossover_readings(readings, 2, &out) == 100 && left());
-    EXPECT(bazintroa_gain_crossover_readings(many, 4097, &out) == 15 && left());
+    EXPECT(bazintroa_gain_crossover_readings(readings, 2, &out) == BAZINTROA_NONE && left());
+    EXPECT(bazintroa_gain_crossover_readings(many, 4097, &out) == BAZINTROA_TOO_MANY && left());
 }
 
 /* ---- grids ---- */
@@ -240,10 +249,11 @@ static void curves_and_readings(void) {
         EXPECT(same(list[5], MARK));                                                                  \
         EXPECT(function(NAN, 2, list, 6) == 0 && isnan(list[1]));                                     \
         list[0] = list[1] = MARK;                                                                     \
-        EXPECT(function(8, 1, list, 6) == 1 && function(8, 0, list, 6) == 1);                         \
+        EXPECT(function(8, 1, list, 6) == BAZINTROA_INSUFFICIENT_POINTS);                             \
+        EXPECT(function(8, 0, list, 6) == BAZINTROA_INSUFFICIENT_POINTS);                             \
         EXPECT(function(0, 2, list, 6) == range && function(-8, 2, list, 6) == range);                \
-        EXPECT(function(8, 7, list, 6) == 14);                                                        \
-        EXPECT(function(8, 4097, long_list, 4097) == 15);                                             \
+        EXPECT(function(8, 7, list, 6) == BAZINTROA_NO_ROOM);                                         \
+        EXPECT(function(8, 4097, long_list, 4097) == BAZINTROA_TOO_MANY);                             \
         EXPECT(same(list[0], MARK) && same(list[1], MARK) && same(long_list[4096], 0));               \
         EXPECT(function(8, 4096, long_list, 4096) == 0 && same(long_list[4095], 8));                  \
         memset(long_list, 0, sizeof long_list);                                                       \
@@ -253,10 +263,10 @@ static void grids(void) {
     double list[6] = {MARK, MARK, MARK, MARK, MARK, MARK};
 
     TRY(bazintroa_fill_gain_grid);
-    GRID(bazintroa_fill_gain_grid, 3);
+    GRID(bazintroa_fill_gain_grid, BAZINTROA_INVALID_PARAMETER);
 
     TRY(bazintroa_fill_frequency_grid);
-    GRID(bazintroa_fill_frequency_grid, 2);
+    GRID(bazintroa_fill_frequency_grid, BAZINTROA_INVALID_FREQUENCY_RANGE);
 }
 
 /* ---- the root locus ---- */
@@ -299,13 +309,19 @@ static void locus(void) {
 
     gain = poles[0] = poles[15] = MARK;
     count = 99;
-    EXPECT(bazintroa_locus_point(b1, a1, 9, 0, 1, 1, &gain, poles, &count) == 1);
-    EXPECT(bazintroa_locus_point(b1, a1, 0, 0, 2, 2, &gain, poles, &count) == 3);
-    EXPECT(bazintroa_locus_point(b1, a1, 9, 1, 4097, 0, &gain, poles, &count) == 3);
-    EXPECT(bazintroa_locus_point(b1, a1, 0, 1, 4097, 4097, &gain, poles, &count) == 16);
-    EXPECT(bazintroa_locus_point(b1, a3, 3, 1, 4097, 4097, &gain, poles, &count) == 15);
-    EXPECT(bazintroa_locus_point(b1, a3, 3, 1, 2, 2, &gain, poles, &count) == 17);
-    EXPECT(bazintroa_locus_point(b1, a3, 3, 1, 2, 1, &gain, poles, &count) == 12);
+    EXPECT(bazintroa_locus_point(b1, a1, 9, 0, 1, 1, &gain, poles, &count)
+           == BAZINTROA_INSUFFICIENT_POINTS);
+    EXPECT(bazintroa_locus_point(b1, a1, 0, 0, 2, 2, &gain, poles, &count)
+           == BAZINTROA_INVALID_PARAMETER);
+    EXPECT(bazintroa_locus_point(b1, a1, 9, 1, 4097, 0, &gain, poles, &count)
+           == BAZINTROA_INVALID_PARAMETER);
+    EXPECT(bazintroa_locus_point(b1, a1, 0, 1, 4097, 4097, &gain, poles, &count)
+           == BAZINTROA_WRONG_ORDER);
+    EXPECT(bazintroa_locus_point(b1, a3, 3, 1, 4097, 4097, &gain, poles, &count)
+           == BAZINTROA_TOO_MANY);
+    EXPECT(bazintroa_locus_point(b1, a3, 3, 1, 2, 2, &gain, poles, &count) == BAZINTROA_WRONG_INDEX);
+    EXPECT(bazintroa_locus_point(b1, a3, 3, 1, 2, 1, &gain, poles, &count)
+           == BAZINTROA_CUBIC_LEFT_OUT);
     EXPECT(same(gain, MARK) && same(poles[0], MARK) && same(poles[15], MARK) && count == 99);
 }
 
@@ -378,9 +394,9 @@ static void bode(void) {
     EXPECT(fed.reserved == 0 && fed.summary.reserved == 0);
     EXPECT(fed.summary.first.omega == 1 && fed.summary.last.omega == 2);
     bazintroa_bode_summary first = fed.summary;
-    EXPECT(bazintroa_bode_feed(first, omega, 4, db, 4, phase, 3).number == 11);
+    EXPECT(bazintroa_bode_feed(first, omega, 4, db, 4, phase, 3).number == BAZINTROA_LENGTHS_DIFFER);
     fed = bazintroa_bode_feed(first, LISTS(long_list, long_list, long_list, 4097));
-    EXPECT(fed.number == 15 && fed.reserved == 0 && SAME_BYTES(fed.summary, first));
+    EXPECT(fed.number == BAZINTROA_TOO_MANY && fed.reserved == 0 && SAME_BYTES(fed.summary, first));
     fed = bazintroa_bode_feed(first, LISTS(omega + 2, db + 2, phase + 2, 2));
     EXPECT(fed.number == 0 && fed.summary.first.phase == -90 && fed.summary.last.phase == -200);
     bazintroa_bode_summary whole = fed.summary;
@@ -396,7 +412,7 @@ static void bode(void) {
 
     TRY(bazintroa_bode_gain_crossover);
     EXPECT(bazintroa_bode_gain_crossover(whole, &x) == 0 && x == 3);
-    EXPECT(bazintroa_bode_gain_crossover(first, &out) == 100 && left());
+    EXPECT(bazintroa_bode_gain_crossover(first, &out) == BAZINTROA_NONE && left());
     empty.gain_found = 7;
     empty.gain = 5;
     EXPECT(bazintroa_bode_gain_crossover(empty, &x) == 0 && x == 5);
@@ -404,7 +420,7 @@ static void bode(void) {
     TRY(bazintroa_bode_phase_crossover);
     EXPECT(bazintroa_bode_phase_crossover(whole, &x) == 0 && x == 6);
     EXPECT(bazintroa_bode_phase_crossover(second, &x) == 0 && x == 6);
-    EXPECT(bazintroa_bode_phase_crossover(first, &out) == 100 && left());
+    EXPECT(bazintroa_bode_phase_crossover(first, &out) == BAZINTROA_NONE && left());
 }
 
 static void sensitivity(void) {
@@ -420,9 +436,10 @@ static void sensitivity(void) {
     EXPECT(fed.reserved == 0 && fed.summary.reserved == 0);
     EXPECT(fed.summary.last.omega == 2 && fed.summary.last.s == -3 && fed.summary.last.t == -1);
     bazintroa_sensitivity_summary first = fed.summary;
-    EXPECT(bazintroa_sensitivity_feed(first, omega, 3, s_db, 2, t_db, 3).number == 11);
+    EXPECT(bazintroa_sensitivity_feed(first, omega, 3, s_db, 2, t_db, 3).number
+           == BAZINTROA_LENGTHS_DIFFER);
     fed = bazintroa_sensitivity_feed(first, LISTS(long_list, long_list, long_list, 4097));
-    EXPECT(fed.number == 15 && fed.reserved == 0 && SAME_BYTES(fed.summary, first));
+    EXPECT(fed.number == BAZINTROA_TOO_MANY && fed.reserved == 0 && SAME_BYTES(fed.summary, first));
     fed = bazintroa_sensitivity_feed(first, LISTS(omega + 2, s_db + 2, t_db + 2, 1));
     EXPECT(fed.number == 0 && fed.summary.last.omega == 4 && fed.summary.last.t == -5);
     bazintroa_sensitivity_summary whole = fed.summary;
@@ -437,16 +454,16 @@ static void sensitivity(void) {
     EXPECT(bazintroa_sensitivity_summary_crossover(whole, &x) == 0 && x == 2.5);
     x = MARK;
     EXPECT(bazintroa_sensitivity_summary_crossover(joined, &x) == 0 && x == 2.5);
-    EXPECT(bazintroa_sensitivity_summary_crossover(first, &out) == 100 && left());
+    EXPECT(bazintroa_sensitivity_summary_crossover(first, &out) == BAZINTROA_NONE && left());
 
     TRY(bazintroa_sensitivity_summary_bandwidth);
     EXPECT(bazintroa_sensitivity_summary_bandwidth(whole, &x) == 0 && x == 3);
-    EXPECT(bazintroa_sensitivity_summary_bandwidth(first, &out) == 100 && left());
-    EXPECT(bazintroa_sensitivity_summary_bandwidth(joined, &out) == 101 && left());
+    EXPECT(bazintroa_sensitivity_summary_bandwidth(first, &out) == BAZINTROA_NONE && left());
+    EXPECT(bazintroa_sensitivity_summary_bandwidth(joined, &out) == BAZINTROA_NOT_KEPT && left());
     joined = bazintroa_sensitivity_join(whole, empty);
-    EXPECT(bazintroa_sensitivity_summary_bandwidth(joined, &out) == 101 && left());
+    EXPECT(bazintroa_sensitivity_summary_bandwidth(joined, &out) == BAZINTROA_NOT_KEPT && left());
     empty.bandwidth_state = 7;
-    EXPECT(bazintroa_sensitivity_summary_bandwidth(empty, &out) == 101 && left());
+    EXPECT(bazintroa_sensitivity_summary_bandwidth(empty, &out) == BAZINTROA_NOT_KEPT && left());
 }
 
 static void curve(void) {
@@ -463,9 +480,9 @@ static void curve(void) {
     EXPECT(fed.number == 0 && fed.summary.found == 1 && fed.summary.re == 0 && fed.summary.im == 0);
     EXPECT(fed.reserved == 0 && fed.summary.reserved == 0);
     bazintroa_curve_summary first = fed.summary;
-    EXPECT(bazintroa_curve_feed(first, re, 2, im, 1).number == 11);
+    EXPECT(bazintroa_curve_feed(first, re, 2, im, 1).number == BAZINTROA_LENGTHS_DIFFER);
     fed = bazintroa_curve_feed(first, long_list, 4097, long_list, 4097);
-    EXPECT(fed.number == 15 && fed.reserved == 0 && SAME_BYTES(fed.summary, first));
+    EXPECT(fed.number == BAZINTROA_TOO_MANY && fed.reserved == 0 && SAME_BYTES(fed.summary, first));
     fed = bazintroa_curve_feed(first, re + 1, 1, im + 1, 1);
     EXPECT(fed.number == 0 && fed.summary.re == -1 && fed.summary.im == 0.5);
     bazintroa_curve_summary whole = fed.summary;
@@ -480,6 +497,49 @@ static void curve(void) {
     EXPECT(bazintroa_curve_closest_approach(first) == 1);
     EXPECT(bazintroa_curve_closest_approach(whole) == 0.5);
     EXPECT(bazintroa_curve_closest_approach(joined) == 0.5);
+}
+
+/* What a point gives that no feed would have kept, in a struct that is made up: its squared distance
+ * is a NaN, or infinite. */
+static void made_up_curve(void) {
+    const double re[2] = {0, -1}, im[2] = {0, 0.5};
+    bazintroa_curve_summary empty = bazintroa_curve_empty(), nan = empty, far = empty;
+    bazintroa_curve_summary fed = bazintroa_curve_feed(empty, re, 2, im, 2).summary, after;
+    nan.found = 7;
+    nan.re = INFINITY;
+    nan.im = NAN;
+    far.found = 7;
+    far.re = 1e200;
+
+    tried = "bazintroa_curve_feed";
+    after = bazintroa_curve_feed(nan, re, 2, im, 2).summary;
+    EXPECT(after.found == 1 && after.re == INFINITY && isnan(after.im));
+    after = bazintroa_curve_feed(far, re, 0, im, 0).summary;
+    EXPECT(after.found == 1 && after.re == 1e200 && after.im == 0);
+    after = bazintroa_curve_feed(far, re, 2, im, 2).summary;
+    EXPECT(after.found == 1 && after.re == -1 && after.im == 0.5);
+
+    tried = "bazintroa_curve_join";
+    after = bazintroa_curve_join(nan, fed);
+    EXPECT(after.found == 1 && after.re == INFINITY && isnan(after.im));
+    after = bazintroa_curve_join(fed, nan);
+    EXPECT(after.found == 1 && after.re == -1 && after.im == 0.5);
+    EXPECT(bazintroa_curve_join(empty, nan).found == 0);
+    after = bazintroa_curve_join(far, fed);
+    EXPECT(after.found == 1 && after.re == -1 && after.im == 0.5);
+    after = bazintroa_curve_join(fed, far);
+    EXPECT(after.found == 1 && after.re == -1 && after.im == 0.5);
+    EXPECT(bazintroa_curve_join(empty, far).found == 0);
+    after = bazintroa_curve_join(nan, far);
+    EXPECT(after.re == INFINITY);
+    after = bazintroa_curve_join(far, nan);
+    EXPECT(after.found == 1 && after.re == 1e200);
+
+    tried = "bazintroa_curve_closest_approach";
+    EXPECT(isnan(bazintroa_curve_closest_approach(nan)));
+    EXPECT(bazintroa_curve_closest_approach(far) == 0);
+    far.re = -INFINITY;
+    EXPECT(bazintroa_curve_closest_approach(far) == 0);
 }
 
 /* ---- the set-up panel ---- */
@@ -500,10 +560,10 @@ static int reads(const uint8_t *bytes, double x) {
 #define PANEL(function, x)                                                                            \
     do {                                                                                              \
         memset(answer, 9, sizeof answer);                                                             \
-        EXPECT(function(sweep, 96, answer, 7) == 14);                                                 \
-        EXPECT(function(sweep, 95, answer, 7) == 19);                                                 \
-        EXPECT(function(many, sizeof many, answer, 7) == 15);                                         \
-        EXPECT(function(sweep, 24, answer, 9) == 100);                                                \
+        EXPECT(function(sweep, 96, answer, 7) == BAZINTROA_NO_ROOM);                                  \
+        EXPECT(function(sweep, 95, answer, 7) == BAZINTROA_WRONG_BYTE_COUNT);                         \
+        EXPECT(function(many, sizeof many, answer, 7) == BAZINTROA_TOO_MANY);                         \
+        EXPECT(function(sweep, 24, answer, 9) == BAZINTROA_NONE);                                     \
         EXPECT(answer[0] == 9 && answer[6] == 9);                                                     \
         EXPECT(function(sweep, 96, answer, 9) == 0 && reads(answer, x) && answer[8] == 9);            \
         /* The first frequency is a NaN. */                                                           \
@@ -543,6 +603,7 @@ int main(void) {
     bode();
     sensitivity();
     curve();
+    made_up_curve();
     panel();
     return wrong;
 }

@@ -286,6 +286,8 @@ fn forms_of_a_file() {
                 .replace('\n', "   # a comment\n\n"),
         ),
         ("f4.txt", format!("\u{feff}{text}")),
+        // What follows this comma cannot be decimals.
+        ("f5.txt", text.replace("4.8 -4.5", "4.8,-4.5")),
     ] {
         let path = file(name, contents);
         assert_eq!(
@@ -347,6 +349,24 @@ fn wrong_lines_are_named() {
             "w10.txt",
             "plant.b = 1 2 3 4 5 6 7 8 9\n",
             "line 1: plant.b has 9 coefficients, and the order is at most 8 (refusal 16)",
+        ),
+        (
+            "comma.txt",
+            "plant.b = 0 0,06\ncontroller.b = 1\n",
+            "line 1: \"0,06\" may be one number or two: a number has a decimal point, and numbers are \
+             separated by blanks or by a comma followed by a blank",
+        ),
+        (
+            "commas.txt",
+            "plant.b = 1\ncontroller.b = 0.8,2,-0.72 1\n",
+            "line 2: \"0.8,2,-0.72\" may be one number or two: a number has a decimal point, and numbers \
+             are separated by blanks or by a comma followed by a blank",
+        ),
+        (
+            "comma_in_front.txt",
+            "plant.b = 1 ,06\n",
+            "line 1: \",06\" may be one number or two: a number has a decimal point, and numbers are \
+             separated by blanks or by a comma followed by a blank",
         ),
         (
             "w11.txt",

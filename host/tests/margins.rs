@@ -60,6 +60,10 @@ fn forms_of_a_file() {
         ("windows.csv", SWEEP.replace('\n', "\r\n")),
         ("header.csv", format!("omega,dB,phase\n{SWEEP}")),
         (
+            "quoted_names.csv",
+            format!("\"omega\",\"dB\",\"phase\"\n{SWEEP}"),
+        ),
+        (
             "comments.csv",
             format!(
                 "# measured in June\n\nω, dB, phase\n{}# end",
@@ -109,7 +113,43 @@ fn wrong_lines_are_named() {
         (
             "decimal_commas_and_semicolons.csv",
             "0,5;6,25;-90,0\n",
-            "line 1: the frequency is no number: \"0,5\"",
+            "line 1: the frequency is no number: \"0,5\"; a number has a decimal point",
+        ),
+        (
+            "decimal_commas_behind_names.csv",
+            "omega;db;phase;note\n1;6,25;-90;x\n",
+            "line 2: the magnitude in dB is no number: \"6,25\"; a number has a decimal point",
+        ),
+        (
+            "two_decimal_commas.csv",
+            "0,5;1,2\n",
+            "line 1: 2 fields where 3 are needed: frequency, dB and phase, with decimal points",
+        ),
+        (
+            "four.csv",
+            "0,1,2,3\n",
+            "line 1: 4 fields where 3 are needed: frequency, dB and phase, with decimal points",
+        ),
+        (
+            "behind_a_semicolon.csv",
+            "1,2,3\n1,2,3;4\n",
+            "line 2: 2 fields where 3 are needed: frequency, dB and phase, with decimal points",
+        ),
+        (
+            "long_line.csv",
+            "omega,db,phase,note\n1,2,3,x\n1,2,3,x,4\n",
+            "line 3: 5 fields where the first line names 4",
+        ),
+        // Readings, and no names of columns.
+        (
+            "commas_in_front.csv",
+            ",5;,25;,75\n1;2;3\n",
+            "line 1: the frequency is no number: \",5\"; a number has a decimal point",
+        ),
+        (
+            "quotes.csv",
+            "\"0.5\",\"6\",\"-90\"\n1,2,3\n",
+            "line 1: the frequency is no number: \"\\\"0.5\\\"\"",
         ),
         (
             "word.csv",

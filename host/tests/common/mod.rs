@@ -35,7 +35,8 @@ pub fn said<S: AsRef<std::ffi::OsStr>>(arguments: impl IntoIterator<Item = S>) -
     text_of(program().args(arguments).output().unwrap())
 }
 
-fn text_of(output: Output) -> String {
+/// What a call prints that ends well and says nothing on standard error.
+pub fn text_of(output: Output) -> String {
     assert_eq!(String::from_utf8_lossy(&output.stderr), "");
     assert_eq!(output.status.code(), Some(0));
     String::from_utf8(output.stdout).unwrap()
@@ -56,7 +57,11 @@ pub fn said_of_input(arguments: &[&str], input: &[u8]) -> String {
 
 /// The one line on standard error of a call that ends with status 2 and prints nothing.
 pub fn refused<S: AsRef<std::ffi::OsStr>>(arguments: impl IntoIterator<Item = S>) -> String {
-    let output = program().args(arguments).output().unwrap();
+    line_of(program().args(arguments).output().unwrap())
+}
+
+/// The one line of such a call.
+pub fn line_of(output: Output) -> String {
     assert_eq!(output.status.code(), Some(2));
     assert_eq!(String::from_utf8_lossy(&output.stdout), "");
     let line = String::from_utf8(output.stderr).unwrap();

@@ -3,10 +3,14 @@
 use std::ffi::OsString;
 use std::fs;
 use std::io::{self, Read};
-use std::path::PathBuf;
+use std::path::{Path, PathBuf};
 
+use crate::files;
 use crate::output::{Failure, Output};
 use crate::words::quoted;
+
+/// What the value of an option is called that names a file to write.
+pub const FILE: &str = "FILE";
 
 /// A command of the program.
 pub struct Command {
@@ -62,16 +66,22 @@ impl Arguments {
             if options.iter().any(|(o, _)| *o == option) {
                 return Err(format!("{option} is given twice").into());
             }
-            let value = match (value, joined) {
+            let given = match (value, joined) {
                 ("", None) => OsString::new(),
                 ("", Some(_)) => return Err(format!("{option} takes no value").into()),
-                (_, Some(joined)) if !joined.is_empty() => joined,
-                (value, Some(_)) => return Err(format!("{option} needs a {value}").into()),
-                (value, None) => arguments
-                    .next()
+                (value, joined) => joined
+                    .or_else(|| arguments.next())
+                    .filter(|given| !given.is_empty())
                     .ok_or_else(|| format!("{option} needs a {value}"))?,
             };
-            options.push((option, value));
+            let text = given.to_string_lossy();
+            if value == FILE && text.starts_with('-') {
+                return Err(format!(
+                    "{option} needs a {FILE}, and {text} begins as an option does; ./{text} names a file"
+                )
+                .into());
+            }
+            options.push((option, given));
         }
         let file = file.ok_or_else(|| {
             format!(
@@ -79,6 +89,13 @@ impl Arguments {
                 command.file
             )
         })?;
+        let is_output = |option: &str| command.options.contains(&(option, FILE));
+        let outputs: Vec<(&str, &Path)> = options
+            .iter()
+            .filter(|(option, _)| is_output(option))
+            .map(|(option, path)| (*option, Path::new(path)))
+            .collect();
+        files::check(Path::new(&file), &outputs)?;
         Ok(Some(Arguments { file, options }))
     }
 

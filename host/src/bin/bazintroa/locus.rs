@@ -9,7 +9,7 @@ use bazintroa::{
     TransferFn,
 };
 
-use crate::arguments::{Arguments, Command};
+use crate::arguments::{Arguments, Command, FILE};
 use crate::json::Json;
 use crate::output::{Failure, Output};
 use crate::progress::Progress;
@@ -48,7 +48,7 @@ Example:
         ("--k-max", "number"),
         ("--points", "whole number"),
         ("--pole-at-0", ""),
-        ("--svg", "FILE"),
+        ("--svg", FILE),
         ("--json", ""),
     ],
     run,

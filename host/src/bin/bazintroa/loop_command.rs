@@ -8,7 +8,7 @@ use bazintroa::{
     LocusPoint, LoopShaping, Refusal,
 };
 
-use crate::arguments::{Arguments, Command};
+use crate::arguments::{Arguments, Command, FILE};
 use crate::json::Json;
 use crate::locus::{self, Poles};
 use crate::loop_plot;
@@ -54,8 +54,8 @@ Example:
         ("--omega-max", "number"),
         ("--even", ""),
         ("--unwrap", ""),
-        ("--csv", "FILE"),
-        ("--svg", "FILE"),
+        ("--csv", FILE),
+        ("--svg", FILE),
         ("--json", ""),
     ],
     run,

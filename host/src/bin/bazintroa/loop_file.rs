@@ -16,9 +16,10 @@ The file names the coefficients of plant and controller, lowest power of 1/z fir
   controller.b = 0.8 -0.72
   controller.a = -1
 
-Each is (b0 + b1/z + b2/z² ..) / (1 + a0/z + a1/z² ..): the first of a belongs to 1/z. Blanks or
-commas stand between numbers, # begins a comment, and without a line for a its numbers are 0. The
-order is the number of coefficients of the longer list, at most 8. The file - is standard input.
+Each is (b0 + b1/z + b2/z² ..) / (1 + a0/z + a1/z² ..): the first of a belongs to 1/z. Numbers have
+a decimal point and are separated by blanks or by a comma followed by a blank, # begins a comment,
+and without a line for a its numbers are 0. The order is the number of coefficients of the longer
+list, at most 8. The file - is standard input.
 ";
 
 /// Reads the lines of a file. The error names the line and what is wrong with it.
@@ -66,6 +67,16 @@ pub fn parse(text: &str) -> Result<LoopShaping, String> {
 }
 
 fn coefficients(text: &str) -> Result<Vec<f64>, String> {
+    // A comma right before a digit may be a decimal comma.
+    let digit_behind = |piece: &str| piece.starts_with(|c: char| c.is_ascii_digit());
+    let mut words = text.split_whitespace();
+    if let Some(word) = words.find(|word| word.split(',').skip(1).any(digit_behind)) {
+        return Err(format!(
+            "{} may be one number or two: a number has a decimal point, and numbers are separated by \
+             blanks or by a comma followed by a blank",
+            quoted(word)
+        ));
+    }
     let words = text.split(|c: char| c == ',' || c.is_whitespace());
     let words = words.filter(|word| !word.is_empty());
     let numbers: Result<Vec<f64>, String> = words

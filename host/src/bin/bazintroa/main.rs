@@ -3,6 +3,7 @@
 
 mod arguments;
 mod bode_plot;
+mod files;
 mod json;
 mod locus;
 mod locus_plot;

@@ -7,7 +7,7 @@ use bazintroa::{
     Refusal,
 };
 
-use crate::arguments::{Arguments, Command};
+use crate::arguments::{Arguments, Command, FILE};
 use crate::bode_plot;
 use crate::json::Json;
 use crate::output::{Failure, Output};
@@ -37,7 +37,7 @@ Example:
   bazintroa margins examples/steady/sweep.csv --svg steady.svg
 "],
     file: "SWEEP.csv",
-    options: &[("--unwrap", ""), ("--svg", "FILE"), ("--json", "")],
+    options: &[("--unwrap", ""), ("--svg", FILE), ("--json", "")],
     run,
 };
 

@@ -1,8 +1,9 @@
 //! What a command hands over: a text for standard output, and files.
 
-use std::fs;
 use std::io::{self, ErrorKind, Write};
 use std::path::PathBuf;
+
+use crate::files;
 
 /// Why the program ends before its work is done.
 #[derive(Debug)]
@@ -33,12 +34,9 @@ impl Output {
         }
     }
 
-    /// Writes the files, then the text.
+    /// Writes the files, all or none, then the text.
     pub fn deliver(self) -> Result<(), Failure> {
-        for (path, contents) in &self.files {
-            fs::write(path, contents)
-                .map_err(|error| format!("cannot write {}: {error}", path.display()))?;
-        }
+        files::write_all(&self.files)?;
         let mut out = io::stdout().lock();
         out.write_all(self.text.as_bytes())
             .and_then(|()| out.flush())

@@ -114,10 +114,12 @@ fn fields(line: &str) -> Vec<&str> {
     }
 }
 
-/// Whether a field names a column: it neither is a number nor begins like one.
+/// Whether a field names a column: it neither is a number nor begins like one, with a decimal comma or
+/// in quotes.
 fn is_name(field: &str) -> bool {
-    let like_a_number = |c: char| c.is_ascii_digit() || "+-.".contains(c);
-    field.parse::<f64>().is_err() && !field.starts_with(like_a_number)
+    let like_a_number = |c: char| c.is_ascii_digit() || "+-.,".contains(c);
+    let inside = field.trim_start_matches(['"', '\'', ' ']);
+    field.parse::<f64>().is_err() && !inside.starts_with(like_a_number)
 }
 
 fn reading(fields: &[&str], columns: usize) -> Result<(f64, f64, f64), String> {
@@ -130,9 +132,14 @@ fn reading(fields: &[&str], columns: usize) -> Result<(f64, f64, f64), String> {
         });
     }
     let number = |i: usize, what: &str| {
-        fields[i]
-            .parse::<f64>()
-            .map_err(|_| format!("the {what} is no number: {}", quoted(fields[i])))
+        fields[i].parse::<f64>().map_err(|_| {
+            let decimal = if fields[i].contains(',') {
+                "; a number has a decimal point"
+            } else {
+                ""
+            };
+            format!("the {what} is no number: {}{decimal}", quoted(fields[i]))
+        })
     };
     Ok((
         number(0, "frequency")?,
