@@ -292,6 +292,8 @@ fn what_is_no_file_is_written_as_it_is() {
     let null = folder.device("null", "3");
     let before = folder.contents();
     folder.said(&["margins", "in.csv", "--svg", &null]);
+    // It may be named twice.
+    folder.said(&["loop", "loop.txt", "--csv", &null, "--svg", &null]);
     assert_eq!(folder.contents(), before);
 
     // The picture, then the text.

@@ -33,7 +33,7 @@ fn what_the_commands_print() {
                 true => picture.to_str().unwrap(),
                 false => word,
             });
-        let printed = said(words).replace(picture.to_str().unwrap(), "target/chest.svg");
+        let printed = said(words).replace(picture.to_str().unwrap(), "host/target/chest.svg");
         assert_eq!(printed, shown, "{command}");
         tried += 1;
     }

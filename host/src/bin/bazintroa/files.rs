@@ -71,8 +71,10 @@ pub fn check(input: &Path, outputs: &[(&str, &Path)]) -> Result<(), String> {
     let mut seen: Vec<(&str, &Path, Identity)> = Vec::new();
     for &(option, path) in outputs {
         let shown = path.display();
-        // What cannot be named cannot be written either, which is said when it is tried.
-        let Ok(identity) = identity(path) else {
+        // What is there and no file, as /dev/null, has no contents either; what cannot be named cannot be
+        // written, which is said when it is tried.
+        let other = fs::metadata(path).is_ok_and(|file| !file.is_file());
+        let Some(identity) = identity(path).ok().filter(|_| !other) else {
             continue;
         };
         if read.as_ref() == Some(&identity) {
