@@ -76,7 +76,7 @@ pub fn unmarked(head: u64) -> u64
     head
 }
 
-// A question from 16 on counts as question 0, which no file asks.
+// A question from 16 on counts as question 0, which is none.
 fn known(question: u64) -> usize
     ensures { λ r. ⌜ (r ≡ knownOf question) × (r < 16) ⌝ }
 {

@@ -15,7 +15,6 @@ const OTHER_WORDS: [u64; 2] = [1, 1 << 63];
 
 /// An answer that is expected: its place among the words of its case, and whether it begins with a
 /// number.
-#[derive(Clone)]
 struct Answer {
     start: usize,
     len: usize,
@@ -37,7 +36,7 @@ impl Answer {
 }
 
 /// A case: its words, and where its answers lie.
-#[derive(Clone, Default)]
+#[derive(Default)]
 struct Case {
     words: Vec<u64>,
     answers: Vec<Answer>,
