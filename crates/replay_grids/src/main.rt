@@ -25,13 +25,13 @@ fn fill(question: u64, top: f64, n: usize, list: &mut [f64]) -> Grid {
     }
 }
 
-// Whether the list holds the values that are read next, n of them, and behind them marks.
-fn holds(list: &[f64], n: u64) -> bool {
+// Whether the list holds the values that are read next, as many as are given, and behind them marks.
+fn holds(list: &[f64], given: u64) -> bool {
     let mut right = true;
     let mut i: usize = 0;
     while i < list.len() {
         let bits = wire::f64_to_bits(list[i]);
-        let value = if (i as u64) < n {
+        let value = if (i as u64) < given {
             vectors::number()
         } else {
             wire::f64_to_bits(MARK)
@@ -42,18 +42,23 @@ fn holds(list: &[f64], n: u64) -> bool {
     right
 }
 
-fn expected(grid: Grid, n: u64, list: &[f64]) -> bool {
-    let number = vectors::number();
+fn number_of(grid: Grid) -> u32 {
     match grid {
-        Grid::Filled => (number == 0) & holds(list, n),
-        Grid::Refused(e) => (number == e.number() as u64) & holds(list, 0),
+        Grid::Filled => 0,
+        Grid::Refused(e) => e.number(),
     }
+}
+
+fn expected(grid: Grid, list: &[f64]) -> bool {
+    let given = vectors::number();
+    let number = number_of(grid) as u64 == vectors::number();
+    number & holds(list, given)
 }
 
 fn ask(question: u64, top: f64, n: u64, list: &mut [f64]) -> bool {
     put_marks(list);
     let grid = fill(question, top, n as usize, list);
-    expected(grid, n, list)
+    expected(grid, list)
 }
 
 // The same with the first `room` places of a list.
@@ -71,7 +76,8 @@ fn answer(question: u64, tally: Tally) -> Tally {
     let room = vectors::number();
     let mut list = [0.0; 4200];
     let known = if question < 3 { question } else { 0 };
-    tally.count(known, ask_part(question, top, n, room as usize, &mut list))
+    let right = ask_part(question, top, n, room as usize, &mut list);
+    tally.count(known, right & (0 < known))
 }
 
 // A proved loop ends, and nothing says that the input does: at most a million cases are read, more than any file has.
@@ -79,8 +85,8 @@ fn run() -> Tally {
     let mut tally = Tally::new();
     for turn in 0..1000000u64 {
         match vectors::next() {
-            Word::Is(question) => {
-                tally = answer(question, tally);
+            Word::Is(head) => {
+                tally = answer(vectors::unmarked(head), tally.begin(head));
             }
             Word::End => {
                 return tally;

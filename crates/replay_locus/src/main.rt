@@ -69,8 +69,12 @@ fn read_poles() -> [Complex; 8] {
 fn ask_stability(tally: Tally) -> Tally {
     let count = vectors::number();
     let poles = read_poles();
-    let stable = root_locus::stability_region(poles, count as usize);
-    tally.count(2, stable == (vectors::number() == 1))
+    let stable: u64 = if root_locus::stability_region(poles, count as usize) {
+        1
+    } else {
+        0
+    };
+    tally.count(2, stable == vectors::number())
 }
 
 // Reads and answers the rest of a case.
@@ -87,8 +91,8 @@ fn run() -> Tally {
     let mut tally = Tally::new();
     for turn in 0..1000000u64 {
         match vectors::next() {
-            Word::Is(kind) => {
-                tally = answer(kind, tally);
+            Word::Is(head) => {
+                tally = answer(vectors::unmarked(head), tally.begin(head));
             }
             Word::End => {
                 return tally;

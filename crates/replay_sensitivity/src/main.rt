@@ -68,8 +68,8 @@ fn run() -> Tally {
     let mut tally = Tally::new();
     for turn in 0..1000000u64 {
         match vectors::next() {
-            Word::Is(cosines) => {
-                tally = answer(cosines, tally);
+            Word::Is(head) => {
+                tally = answer(vectors::unmarked(head), tally.begin(head));
             }
             Word::End => {
                 return tally;

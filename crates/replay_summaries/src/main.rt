@@ -241,13 +241,18 @@ impl Machine {
         tally.count(8, expected_value(summary.closest_approach()))
     }
 
+    fn ask_nothing(self) -> Tally {
+        let tally = self.tally;
+        tally.count(0, false)
+    }
+
     // What register 0 answers.
     fn ask(self, kind: u64) -> Tally {
         match kind {
             1 => self.ask_bode(),
             2 => self.ask_sensitivity(),
             3 => self.ask_curve(),
-            _ => self.tally,
+            _ => self.ask_nothing(),
         }
     }
 }
@@ -280,8 +285,8 @@ fn run() -> Tally {
     let mut tally = Tally::new();
     for turn in 0..1000000u64 {
         match vectors::next() {
-            Word::Is(kind) => {
-                tally = answer(kind, tally);
+            Word::Is(head) => {
+                tally = answer(vectors::unmarked(head), tally.begin(head));
             }
             Word::End => {
                 return tally;

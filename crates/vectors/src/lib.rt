@@ -5,7 +5,7 @@
 ghost use mathlib.Core.Path.{_≡_};
 ghost use Prim.Native.Nat.{_<_};
 ghost use Rattle.vectors.specs.Made.{Made};
-ghost use Rattle.vectors.specs.Tally.{placeOf, noneAsked, countedIn};
+ghost use Rattle.vectors.specs.Tally.{unmarkedOf, knownOf, placeOf, noneAsked, begunWith, countedIn};
 
 pub enum Word {
     Is(u64),
@@ -66,9 +66,19 @@ pub fn floats(list: &mut [f64], count: u64) -> usize
     padded(list, 0, count)
 }
 
-// The place of a question's counts. A question from 16 on has that of question 0, which no file asks.
-fn place(question: u64) -> usize
-    ensures { λ r. ⌜ (r ≡ placeOf question) × (r < 16) ⌝ }
+// The first word of a case without the mark, 128, that its answers are wrong on purpose.
+pub fn unmarked(head: u64) -> u64
+    ensures { λ r. ⌜ r ≡ unmarkedOf head ⌝ }
+{
+    if 128 <= head {
+        return head - 128;
+    }
+    head
+}
+
+// A question from 16 on counts as question 0, which is none.
+fn known(question: u64) -> usize
+    ensures { λ r. ⌜ (r ≡ knownOf question) × (r < 16) ⌝ }
 {
     if 16 <= question {
         return 0;
@@ -76,10 +86,23 @@ fn place(question: u64) -> usize
     question as usize
 }
 
-// How many answers to each question were compared, and how many of them differ.
+// The place of a question's counts: apart for answers that are wrong on purpose.
+fn place(question: u64, wrong: bool) -> usize
+    ensures { λ r. ⌜ (r ≡ placeOf question wrong) × (r < 32) ⌝ }
+{
+    let q = known(question);
+    if wrong {
+        return q + 16;
+    }
+    q
+}
+
+// How many answers to each question were compared, and how many of them differ: first those of cases that are right,
+// then those of cases that are wrong on purpose. `wrong` says which the present case is.
 pub struct Tally {
-    pub asked: [u64; 16],
-    pub differ: [u64; 16],
+    pub asked: [u64; 32],
+    pub differ: [u64; 32],
+    pub wrong: bool,
 }
 
 impl Tally {
@@ -87,16 +110,25 @@ impl Tally {
         ensures { λ r. ⌜ r ≡ noneAsked ⌝ }
     {
         Self {
-            asked: [0; 16],
-            differ: [0; 16],
+            asked: [0; 32],
+            differ: [0; 32],
+            wrong: false,
         }
+    }
+
+    // A case begins, with this word.
+    pub fn begin(mut self, head: u64) -> Self
+        ensures { λ r. ⌜ r ≡ begunWith self head ⌝ }
+    {
+        self.wrong = 128 <= head;
+        self
     }
 
     // One answer more.
     pub fn count(mut self, question: u64, right: bool) -> Self
         ensures { λ r. ⌜ r ≡ countedIn self question right ⌝ }
     {
-        let q = place(question);
+        let q = place(question, self.wrong);
         self.asked[q] = std::num::wrapping_add_u64(self.asked[q], 1);
         if !right {
             self.differ[q] = std::num::wrapping_add_u64(self.differ[q], 1);
@@ -104,7 +136,8 @@ impl Tally {
         self
     }
 
-    // A line for a question: how often it was asked, and how many answers differ.
+    // A line for a question: how often it was asked, and how many answers differ; how many answers are wrong on
+    // purpose, and whether all of these were found to differ.
     pub fn line(self, question: usize, name: &[u8]) {
         if question < 16 {
             io::write_all(1, name);
@@ -112,7 +145,21 @@ impl Tally {
             io::print_decimal(1, self.asked[question]);
             io::write_all(1, b" asked, ");
             io::print_decimal(1, self.differ[question]);
-            io::write_all(1, b" differ\n");
+            io::write_all(1, b" differ; ");
+            print_found(self.asked[question + 16], self.differ[question + 16]);
         }
+    }
+}
+
+// The rest of a line: of the answers that are wrong on purpose, how many were found.
+fn print_found(wrong: u64, found: u64) {
+    if found == wrong {
+        io::print_decimal(1, wrong);
+        io::write_all(1, b" wrong on purpose, all found\n");
+    } else {
+        io::print_decimal(1, found);
+        io::write_all(1, b" of ");
+        io::print_decimal(1, wrong);
+        io::write_all(1, b" wrong on purpose found\n");
     }
 }

@@ -4,13 +4,11 @@ use crate::scans::{bode, described, shown};
 use crate::tally::Comparison;
 use bazintroa::panel;
 use std::fmt::Write;
-use vectors::numbers::{LENGTH_OF_BYTES, MAX_POINTS, NO_ROOM, TOO_MANY};
+use vectors::panel::{answers, decoded, ANSWER, READING};
 use vectors::random::Random;
-use vectors::scans::{number, scan, Answer, Kind};
+use vectors::scans::number;
 use vectors::words::expected_bits;
 
-const READING: usize = 24;
-const ANSWER: usize = 8;
 /// Stands in every byte of an answer before a call.
 const MARK: u8 = 0xA5;
 
@@ -30,11 +28,7 @@ pub fn compare(comparison: &mut Comparison, random: &mut Random) {
         _ => ANSWER,
     };
     let lists = decoded(&bytes);
-    let expected: Vec<Answer> = match refusal(bytes.len(), room) {
-        Some(number) => vec![Err(number); 2],
-        None => scan(Kind::Bode, &lists).into_iter().map(Ok).collect(),
-    };
-    for ((name, entry), expected) in ENTRIES.into_iter().zip(expected) {
+    for ((name, entry), expected) in ENTRIES.into_iter().zip(answers(&bytes, room)) {
         // One byte more than is lent at either end.
         let mut answer = vec![MARK; room + 2];
         let said = u64::from(entry(&bytes, &mut answer[1..=room]));
@@ -55,33 +49,6 @@ pub fn compare(comparison: &mut Comparison, random: &mut Random) {
             )
         });
     }
-}
-
-/// Document 01's conditions, in its order.
-fn refusal(length: usize, room: usize) -> Option<u64> {
-    let (readings, rest) = (length / READING, length % READING);
-    if rest != 0 {
-        Some(LENGTH_OF_BYTES)
-    } else if readings > MAX_POINTS as usize {
-        Some(TOO_MANY)
-    } else if room < ANSWER {
-        Some(NO_ROOM)
-    } else {
-        None
-    }
-}
-
-/// ω, dB and phase of the readings.
-fn decoded(bytes: &[u8]) -> Vec<Vec<f64>> {
-    let number = |bytes: &[u8]| f64::from_le_bytes(bytes.try_into().expect("eight bytes"));
-    (0..3)
-        .map(|field| {
-            let readings = bytes.chunks_exact(READING);
-            readings
-                .map(|reading| number(&reading[8 * field..][..8]))
-                .collect()
-        })
-        .collect()
 }
 
 /// Sweeps as bytes, some of them damaged.

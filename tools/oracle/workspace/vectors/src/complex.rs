@@ -114,6 +114,14 @@ pub fn vectors() -> Words {
     }
 
     ask(&mut words, Epsilon, [0.0; 4]);
+
+    words.wrong_on_purpose(|_| ());
+    for no_question in [0, 13] {
+        words.word(no_question);
+        words.arguments(&[0.0; 4]);
+        words.answer(VALUE, &[0.0; 2]);
+        words.wrong_as_it_stands();
+    }
     words
 }
 
@@ -192,11 +200,10 @@ fn ask(words: &mut Words, question: Question, mut arguments: Arguments) {
     arguments[question.reads()..].fill(0.0);
     words.word(question as u64);
     words.arguments(&arguments);
-    match question.answer(arguments) {
-        Some(values) => words.answer(VALUE, &values),
-        None => words.answer(NONE, &[0.0; 2]),
-    }
-    words.count(format!("{question:?}"));
+    let answer = question.answer(arguments);
+    let number = if answer.is_some() { VALUE } else { NONE };
+    words.answer(number, &answer.unwrap_or([0.0; 2]));
+    words.count(format!("{question:?} {number}"));
 }
 
 /// Reals of every class.

@@ -17,6 +17,9 @@ use Question::*;
 /// The longest list lent.
 pub const MAX_ROOM: u64 = 4200;
 
+/// What each place of the lent list holds before the call.
+const MARK: f64 = -7.25;
+
 /// The grid, or the number of a refusal.
 pub type Answer = Result<Vec<f64>, u64>;
 
@@ -106,18 +109,63 @@ pub fn vectors() -> Words {
             write(&mut words, &case);
         }
     }
+
+    let small = |question: Question, n: u64, room: u64| Case {
+        question,
+        top: 8.0,
+        n,
+        room,
+    };
+    words.wrong_on_purpose(|words| {
+        for question in [Gains, Frequencies] {
+            // Every place is given, those behind the grid among them.
+            for case in [small(question, 5, 8), small(question, 5, 3)] {
+                write_given(words, question as u64, &case, case.room);
+                words.count(format!("{question:?} {}", case.room));
+            }
+        }
+    });
+    for question in [Gains, Frequencies] {
+        // Of the grid a place too few is given, so that the mark is expected there; or none is.
+        for room in [5, 6, 8] {
+            for given in [4, 0] {
+                write_given(
+                    &mut words,
+                    question as u64,
+                    &small(question, 5, room),
+                    given,
+                );
+                words.wrong_as_it_stands();
+            }
+        }
+    }
+    for no_question in [0, 3] {
+        write_given(&mut words, no_question, &small(Frequencies, 5, 5), 5);
+        words.wrong_as_it_stands();
+    }
     words
 }
 
 fn write(words: &mut Words, case: &Case) {
-    words.word(case.question as u64);
+    let answer = case.answer();
+    let given = answer.as_ref().map_or(0, |grid| grid.len() as u64);
+    write_given(words, case.question as u64, case, given);
+    let number = answer.err().unwrap_or(VALUE);
+    words.count(format!("{:?} {number}", case.question));
+}
+
+/// The case under this question, with what the first places hold after it; as many are given.
+fn write_given(words: &mut Words, question: u64, case: &Case, given: u64) {
+    words.word(question);
     words.arguments(&[case.top]);
     words.word(case.n);
     words.word(case.room);
+    words.word(given);
     let answer = case.answer();
     let number = *answer.as_ref().err().unwrap_or(&VALUE);
-    words.answer(number, &answer.unwrap_or_default());
-    words.count(format!("{:?} {number}", case.question));
+    let mut list = answer.unwrap_or_default();
+    list.resize(list.len().max(given as usize), MARK);
+    words.answer(number, &list[..given as usize]);
 }
 
 /// Rows for the prover. A place that the grid does not take must stay.

@@ -6,6 +6,7 @@ pub mod constant;
 pub mod grids;
 pub mod locus;
 pub mod numbers;
+pub mod panel;
 pub mod random;
 pub mod rows;
 pub mod scans;

@@ -187,6 +187,15 @@ pub fn vectors() -> Words {
     for region in regions(random) {
         write_region(&mut words, &region);
     }
+    for point in starting_points(random) {
+        write_point(&mut words, &point);
+    }
+
+    words.wrong_on_purpose(|_| ());
+    for no_question in [0, 3] {
+        words.word(no_question);
+        words.wrong_as_it_stands();
+    }
     words
 }
 
@@ -306,9 +315,7 @@ fn write_point(words: &mut Words, point: &Point) {
     words.arguments(&point.function.b);
     words.arguments(&point.function.a);
     let answer = point.checked_answer();
-    for word in written(&answer) {
-        words.word(word);
-    }
+    words.expected(true, written(&answer).to_vec());
     words.count(match answer {
         Ok((_, poles)) => format!("point {VALUE}, {} poles", poles.len()),
         Err(number) => format!("point {number}"),
@@ -320,7 +327,7 @@ fn write_region(words: &mut Words, region: &Region) {
     words.word(region.count);
     words.arguments(&region.poles.concat());
     let stable = region.answer();
-    words.word(u64::from(stable));
+    words.expected(false, vec![u64::from(stable)]);
     words.count(format!("region {}", u64::from(stable)));
 }
 
@@ -611,6 +618,37 @@ fn just_skipped() -> Vec<Vec<f64>> {
     let polynomials = [at, below, above].concat();
     let with_lead = |coefficients: &[f64; 4]| [&[1.0], &coefficients[..]].concat();
     polynomials.iter().map(with_lead).collect()
+}
+
+/// Found by a search of our own: in each degree an answer changes with any starting point, be it by
+/// the last bit of its cosine or its sine, up or down, or a 0 by its sign. Coefficients behind the
+/// leading 1.
+fn starting_points(random: &mut Random) -> Vec<Point> {
+    let list: [&[f64]; 13] = [
+        &[-2.0, 2.0, -2.0, 1.0],
+        &[-1.0, 1.0, -1.0, 0.0],
+        &[1.0, 1.0, 1.0, 0.0],
+        &[-1.0, 1.0, -1.0, -2.0, 2.0],
+        &[1.0, -2.0, -2.0, 1.0, 1.0, 0.0],
+        &[0.0; 6],
+        &[1.0, -1.0, -1.0, 0.0, 0.0, 0.0],
+        &[0.0, -1.0, 0.0, -1.0, 1.0, -1.0, 1.0],
+        &[0.0, 0.0, 0.0, 0.0, 0.0, 0.0, -1.0],
+        &[1.0, 0.0, 1.0, 0.0, -1.0, 0.0, -1.0, -1.0],
+        &[-1.0, 0.0, 0.0, 0.0, 0.0, 0.0, -1.0, 1.0],
+        &[-1.0, 1.0, -1.0, 0.0, 0.0, 0.0, 0.0, 0.0],
+        &[1.0, -1.0, -1.0, 0.0, 0.0, 0.0, 0.0, 0.0],
+    ];
+    let point = |a: &[f64]| {
+        let pairs: Vec<_> = a.iter().map(|&a_k| [0.0, a_k]).collect();
+        Point {
+            k_max: 1.0,
+            function: Coefficients::new(random, &pairs),
+            n: 2,
+            i: 1,
+        }
+    };
+    list.map(point).into()
 }
 
 /// Polynomials for the search. Some need all its rounds, some overflow or hold NaNs.

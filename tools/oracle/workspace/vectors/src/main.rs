@@ -5,7 +5,7 @@
 
 use std::path::Path;
 use std::{env, fs, io};
-use vectors::{complex, grids, locus, rows, scans, sensitivity, start_table, summaries};
+use vectors::{complex, grids, locus, panel, rows, scans, sensitivity, start_table, summaries};
 
 fn main() -> io::Result<()> {
     let words: Vec<_> = env::args().skip(1).collect();
@@ -32,6 +32,7 @@ fn write_files(folder: &str) -> io::Result<()> {
         ("replay_grids", grids::vectors()),
         ("replay_locus", locus::vectors()),
         ("replay_summaries", summaries::vectors()),
+        ("replay_panel", panel::vectors()),
     ];
     for (name, words) in files {
         let folder = Path::new(&folder).join(name);

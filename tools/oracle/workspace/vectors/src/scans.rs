@@ -88,7 +88,10 @@ impl Case {
 pub fn vectors() -> Words {
     let random = &mut Random::new(3);
     let mut cases = worked();
-    cases.extend(bode_edges(random));
+    cases.extend(bode_edges(random).iter().map(|lists| {
+        let [omega, db, phase] = lists;
+        Case::new(Bode, [omega, db, phase])
+    }));
     cases.extend(enclosures(random));
     cases.extend(sensitivity_edges(random));
     cases.extend(bandwidth_edges(random));
@@ -101,6 +104,15 @@ pub fn vectors() -> Words {
     let mut words = Words::default();
     for case in &cases {
         write(&mut words, case);
+    }
+
+    words.wrong_on_purpose(|_| ());
+    for no_question in [0, 4] {
+        for word in [no_question, 1, 1, 1, 0] {
+            words.word(word);
+        }
+        words.arguments(&[1.0; 3]);
+        words.wrong_as_it_stands();
     }
     words
 }
@@ -508,12 +520,12 @@ fn two_frequencies(random: &mut Random) -> [f64; 2] {
     ])
 }
 
-/// Two readings: every pair of edges in dB, in phase and in ω.
-fn bode_edges(random: &mut Random) -> Vec<Case> {
+/// Two readings: every pair of edges in dB, in phase and in ω, and what is next to `EPS` apart.
+pub fn bode_edges(random: &mut Random) -> Vec<[Vec<f64>; 3]> {
     let (edges, phase_edges) = (edges(), phase_edges());
     let mut cases = Vec::new();
     let mut add = |omega: [f64; 2], db: [f64; 2], phase: [f64; 2]| {
-        cases.push(Case::new(Bode, [&omega, &db, &phase]));
+        cases.push([omega, db, phase].map(Vec::from));
     };
     for &first in &edges {
         for &second in &edges {

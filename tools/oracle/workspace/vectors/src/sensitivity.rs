@@ -36,6 +36,10 @@ pub fn vectors() -> Words {
     for case in &cases {
         write(&mut words, random, case);
     }
+    for case in &zeros(random) {
+        write(&mut words, random, case);
+    }
+    words.wrong_on_purpose(|_| ());
     words
 }
 
@@ -323,6 +327,44 @@ fn edges(random: &mut Random) -> Vec<Case> {
         add(&[], &[[gain, 0.0]], 0.0);
         add(&[[gain, 0.0]], &[], 0.0);
         add(&[[gain, 0.0]], &[[gain, 0.5]], 1.0);
+    }
+    cases
+}
+
+/// Zeros of either sign. Found by a search of our own: where one of the zeros that the sums, 1 + L,
+/// S and a missing quotient are made of has the other sign, an answer to each of the five questions
+/// that can show it does.
+fn zeros(random: &mut Random) -> Vec<Case> {
+    // b[0] and a[0] of plant and controller; none is order 0.
+    #[rustfmt::skip]
+    let list: [(&[[f64; 2]], &[[f64; 2]], f64); 19] = [
+        (&[[-0.0, 0.5]], &[[-0.0, 0.5]], 1.0),
+        (&[[-0.0, 0.5]], &[[1.0, 0.0]], FRAC_PI_2),
+        (&[[-0.0, -2.0]], &[[0.0, -2.0]], -0.0),
+        (&[[-0.0, -2.0]], &[[-0.0, -2.0]], -1.0),
+        (&[[-0.0, -0.5]], &[[-0.0, -2.0]], -1.0),
+        (&[[1.0, -1.0]], &[[1.0, -2.0]], -0.0),
+        (&[[1.0, 0.0]], &[[1.0, -2.0]], 0.0),
+        (&[[-1.0, 0.0]], &[[1.0, -1.0]], 0.0),
+        (&[[1.0, 0.5]], &[[1.0, -2.0]], 0.0),
+        (&[[1.0, -0.5]], &[[1.0, -2.0]], 0.0),
+        (&[[1.0, 0.0]], &[[-1.0, -0.5]], 0.0),
+        (&[[0.0, -2.0]], &[[1.0, -1.0]], -0.0),
+        (&[[1.0, 0.5]], &[[1.0, -2.0]], -0.0),
+        (&[[1.0, -0.5]], &[[1.0, -2.0]], -0.0),
+        (&[[-1.0, 0.0]], &[[0.0, -2.0]], -0.0),
+        (&[[1.0, 0.0]], &[[-1.0, 0.0]], 0.0),
+        (&[], &[[0.0, -2.0]], -1.0),
+        (&[], &[[-1.0, 0.5]], 1.0),
+        (&[], &[[1.0, -1.0]], 0.0),
+    ];
+    let mut cases = Vec::new();
+    for (first, second, omega) in list {
+        for (plant, controller) in [(first, second), (second, first)] {
+            let plant = Coefficients::new(random, plant);
+            let controller = Coefficients::new(random, controller);
+            cases.push(ample(random, plant, controller, omega));
+        }
     }
     cases
 }

@@ -130,6 +130,20 @@ pub fn vectors() -> Words {
     for case in &cases {
         write(&mut words, case);
     }
+
+    words.wrong_on_purpose(|words| {
+        for kind in KINDS {
+            write(words, &with_refused_parts(kind));
+        }
+    });
+    // A kind that there is not, with calls that there are not, and a feed.
+    for no_kind in [0, 4] {
+        for word in [no_kind, 3, 0, 0, 4, 0, 2, 0, 1, 1, 1, 0] {
+            words.word(word);
+        }
+        words.arguments(&[1.0; 3]);
+        words.wrong_as_it_stands();
+    }
     words
 }
 
@@ -254,7 +268,7 @@ fn write_call(words: &mut Words, call: &Call) {
             for list in &part.lists {
                 words.arguments(list);
             }
-            words.word(refusal(&part.whole_lists()).unwrap_or(VALUE));
+            words.answer(refusal(&part.whole_lists()).unwrap_or(VALUE), &[]);
         }
         Call::Join(at, other) => {
             words.word(3);
@@ -647,6 +661,17 @@ pub fn mixed(kind: Kind, random: &mut Random) -> Case {
     if random.below(2) == 0 {
         calls.push(Call::Join(0, 1 + random.below(3) as usize));
     }
+    Case { kind, calls }
+}
+
+/// Each refusal of a part, and both at once.
+fn with_refused_parts(kind: Kind) -> Case {
+    let feed = |pad: usize, longer: usize| {
+        let mut lists = vec![vec![1.0]; kind.lists()];
+        lists[0].extend(vec![2.0; longer]);
+        Call::Feed(0, Part { pad, lists })
+    };
+    let calls = vec![feed(0, 1), feed(PART, 0), feed(PART, 1), feed(0, 0)];
     Case { kind, calls }
 }
 
