@@ -3,3 +3,4 @@ pub mod Decoded
 pub mod Scanning
 pub mod Replies
 pub mod Laws
+pub mod Worked
