@@ -187,8 +187,10 @@ pub fn vectors() -> Words {
     for region in regions(random) {
         write_region(&mut words, &region);
     }
-    for point in starting_points(random) {
-        write_point(&mut words, &point);
+    let mut points = starting_points(random);
+    points.extend(zeros(random));
+    for point in &points {
+        write_point(&mut words, point);
     }
 
     words.wrong_on_purpose(|_| ());
@@ -649,6 +651,23 @@ fn starting_points(random: &mut Random) -> Vec<Point> {
         }
     };
     list.map(point).into()
+}
+
+/// Sums of two zeros of any signs for the middle coefficient of a quadratic, whose sign its poles
+/// show.
+fn zeros(random: &mut Random) -> Vec<Point> {
+    let mut points = Vec::new();
+    for a in [0.0, -0.0] {
+        for (b, i) in [(0.0, 1), (-0.0, 1), (1.0, 0), (-1.0, 0)] {
+            points.push(Point {
+                k_max: 1.0,
+                function: Coefficients::new(random, &[[0.0, a], [b, 1.0]]),
+                n: 2,
+                i,
+            });
+        }
+    }
+    points
 }
 
 /// Polynomials for the search. Some need all its rounds, some overflow or hold NaNs.

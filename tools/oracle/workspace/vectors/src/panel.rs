@@ -203,38 +203,14 @@ fn worked() -> Vec<Case> {
     cases
 }
 
-/// Every refusal at its limit and past it, alone and with the others. The last reading that is
-/// whole crosses with the one before it, if there are two.
+/// Every length of the first readings and of those about the most, beside answers with room and
+/// without: every refusal at its limit and past it, alone and with the others. The last reading that
+/// is whole crosses with the one before it, if there are two.
 fn limits() -> Vec<Case> {
     let most = MAX_POINTS as usize * READING;
     let mut cases = Vec::new();
-    for length in [
-        0,
-        1,
-        7,
-        8,
-        16,
-        23,
-        24,
-        25,
-        32,
-        47,
-        48,
-        49,
-        72,
-        most - 25,
-        most - 24,
-        most - 1,
-        most,
-        most + 1,
-        most + 8,
-        most + 23,
-        most + 24,
-        most + 25,
-        most + 47,
-        most + 48,
-    ] {
-        for room in [0, 1, 7, 8, 9, 16, MAX_ROOM] {
+    for length in (0..=3 * READING).chain(most - 25..=most + 2 * READING) {
+        for room in [0, 7, 8, MAX_ROOM] {
             let readings = length.div_ceil(READING);
             // Three readings, or four where the last is not whole.
             let given = readings.min(3 + usize::from(length % READING != 0));
