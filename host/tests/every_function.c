@@ -378,8 +378,8 @@ PLACE(bazintroa_curve_fed, reserved, 4);
 PLACE(bazintroa_curve_fed, summary, 8);
 
 #define SAME_BYTES(a, b) (memcmp(&(a), &(b), sizeof(a)) == 0)
-static const unsigned char zeros[80];
-#define ALL_ZERO(a) (memcmp(&(a), zeros, sizeof(a)) == 0)
+static const unsigned char nothing[80];
+#define ALL_ZERO(a) (memcmp(&(a), nothing, sizeof(a)) == 0)
 
 static void bode(void) {
     double x;

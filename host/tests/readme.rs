@@ -67,6 +67,9 @@ fn the_program_in_c() {
     );
 }
 
+/// The folders that a build makes.
+const MADE: [&str; 2] = ["host/target/", "host/archives/"];
+
 /// The folders whose files the documents name.
 const FOLDERS: [&str; 6] = [
     "docs/",
@@ -91,7 +94,9 @@ fn is_pattern(path: &str) -> bool {
 fn paths(line: &str) -> impl Iterator<Item = &str> {
     let words = line.split(|c: char| c.is_whitespace() || "`()[]|,;:\"'".contains(c));
     let words = words.map(|word| word.trim_end_matches('.'));
-    words.filter(|word| FOLDERS.iter().any(|folder| word.starts_with(folder)) && !is_pattern(word))
+    let ours = |word: &str| FOLDERS.iter().any(|folder| word.starts_with(folder));
+    let made = |word: &str| MADE.iter().any(|folder| word.starts_with(folder));
+    words.filter(move |word| ours(word) && !made(word) && !is_pattern(word))
 }
 
 /// README.md, docs/*.md and tools/*/README.md.
@@ -126,7 +131,7 @@ fn paths_of_a_line() {
     );
     let none: [&str; 0] = [];
     assert_eq!(
-        named("crates/*/src, crates/CRATE/proofs, tools/a/FN.rt, ../docs/a, my_docs/a"),
+        named("crates/*/src, crates/CRATE/proofs, tools/a/FN.rt, ../docs/a, my_docs/a, host/target/a"),
         none
     );
 }
