@@ -131,7 +131,9 @@ fn paths_of_a_line() {
     );
     let none: [&str; 0] = [];
     assert_eq!(
-        named("crates/*/src, crates/CRATE/proofs, tools/a/FN.rt, ../docs/a, my_docs/a, host/target/a"),
+        named(
+            "crates/*/src, crates/CRATE/proofs, tools/a/FN.rt, ../docs/a, my_docs/a, host/target/a"
+        ),
         none
     );
 }

@@ -198,7 +198,10 @@ impl Summary for Curve {
             im,
         } = self.0;
         let marks = [found, reserved].map(u64::from);
-        marks.into_iter().chain([re, im].map(f64::to_bits)).collect()
+        marks
+            .into_iter()
+            .chain([re, im].map(f64::to_bits))
+            .collect()
     }
 }
 
