@@ -1,9 +1,8 @@
--- Which place is which at the boundary: poles that were put are read back, a point's places are written on 0 alone, and the starred loop of document 01
--- tells b from a and the plant from the controller. Assumes nothing.
+-- A point's places are written on 0 alone, and the starred loop of document 01 tells the plant from the controller. Assumes nothing.
 use Prim.Native.Nat.{ℕ}
 use mathlib.Core.Path.{_≡_, refl}
 use mathlib.Core.Bool.{true, false}
-use mathlib.Core.List.{List, [], _∷_, map, flatMap}
+use mathlib.Core.List.{[], _∷_, map}
 use borrow.Author.Tests.{ne-eqb}
 use lib.Ieee.{Float, binary64, round, add, sub, mul, div, lt, ofBits}
 use Rattle.laws.specs.Outcome.{Outcome, found, answered}
@@ -12,22 +11,9 @@ use Rattle.complex.specs.Complex.{newOf, fromReal, valuesOf, product, magnitude
 use Rattle.transfer_fn.specs.Evaluation.{sumUp, termOf, pairSum, numerator, denominator, valueAt, evaluationRefusal}
 use Rattle.sensitivity.specs.Responses.{loopGain, sensitivity, compSensitivity, controlSensitivity, responseBy}
 use Rattle.root_locus.specs.Locus.{Point}
-use Rattle.c_api.specs.Places.{transferFn, loopShaping}
-use Rattle.c_api.specs.Poles.{polesOf, partsOf, placedBy}
-
--- ---- eight poles
-
-module _ (z₀ z₁ z₂ z₃ z₄ z₅ z₆ z₇ : Complex) where
-  abbrev eight : List Complex
-  eight = z₀ ∷ z₁ ∷ z₂ ∷ z₃ ∷ z₄ ∷ z₅ ∷ z₆ ∷ z₇ ∷ []
-
-  -- the parts are the poles' values, one pole behind another
-  pub parts-are : partsOf eight ≡ flatMap valuesOf eight
-  unfolding flatMap
-  parts-are = refl
-
-  pub poles-back : polesOf (partsOf eight) ≡ eight
-  poles-back = refl
+use Rattle.places.specs.Coefficients.{transferFn}
+use Rattle.c_api.specs.Places.{loopShaping}
+use Rattle.c_api.specs.Points.{placedBy}
 
 -- ---- a place of a point
 

@@ -1,4 +1,4 @@
--- Transfer functions and grids as they cross to a host. Definitions only.
+-- Loops and grids as they cross to a host. Definitions only.
 use Prim.Native.Nat.{ℕ}
 use mathlib.Core.Path.{_≡_}
 use mathlib.Core.List.{List}
@@ -6,9 +6,6 @@ use lib.Ieee.{Float}
 use Rattle.laws.specs.Outcome.{Outcome}
 use Rattle.transfer_fn.specs.declared.TransferFn.{TransferFn}
 use Rattle.sensitivity.specs.declared.LoopShaping.{LoopShaping}
-
-abbrev pub transferFn : List Float → List Float → ℕ → TransferFn
-transferFn b a order = record { b = b; a = a; order = order }
 
 abbrev pub loopShaping : TransferFn → TransferFn → LoopShaping
 loopShaping plant controller = record { plant = plant; controller = controller }

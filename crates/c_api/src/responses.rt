@@ -3,19 +3,10 @@ ghost use mathlib.Core.Path.{_≡_};
 ghost use Rattle.transfer_fn.specs.Evaluation.{evaluation};
 ghost use Rattle.sensitivity.specs.Responses.{loopGain, sensitivity, compSensitivity, controlSensitivity, responseBy};
 ghost use Rattle.laws.specs.Outcome.{Answers};
-ghost use Rattle.c_api.specs.Places.{transferFn, loopShaping};
+ghost use Rattle.places.specs.Coefficients.{transferFn};
+ghost use Rattle.c_api.specs.Places.{loopShaping};
 use sensitivity::LoopShaping;
 use transfer_fn::TransferFn;
-
-pub fn transfer_fn(b: &[f64; 8], a: &[f64; 8], order: usize) -> TransferFn
-    ensures { λ r. ⌜ r ≡ transferFn (now (b .entry)) (now (a .entry)) order ⌝ }
-{
-    TransferFn {
-        b: *b,
-        a: *a,
-        order,
-    }
-}
 
 fn loop_shaping(plant: TransferFn, controller: TransferFn) -> LoopShaping
     ensures { λ r. ⌜ r ≡ loopShaping plant controller ⌝ }
@@ -35,7 +26,7 @@ pub extern "C" fn bazintroa_eval_tf_complex(
     ensures { λ r. ⌜ Answers (evaluation (transferFn (now (b .entry)) (now (a .entry)) order) (now (cosines .entry)) (now (sines .entry))) r (now (out .entry)) (now (out .exit)) ⌝ }
 {
     places::put_response(
-        transfer_fn::eval_tf_complex(transfer_fn(b, a, order), cosines, sines),
+        transfer_fn::eval_tf_complex(places::transfer_fn(b, a, order), cosines, sines),
         out,
     )
 }
@@ -56,8 +47,8 @@ pub extern "C" fn bazintroa_loop_gain_at(
         (transferFn (now («controller_b» .entry)) (now («controller_a» .entry)) «controller_order»))
         (now (cosines .entry)) (now (sines .entry))) r (now (out .entry)) (now (out .exit)) ⌝ }
 {
-    let plant = transfer_fn(plant_b, plant_a, plant_order);
-    let controller = transfer_fn(controller_b, controller_a, controller_order);
+    let plant = places::transfer_fn(plant_b, plant_a, plant_order);
+    let controller = places::transfer_fn(controller_b, controller_a, controller_order);
     let shaping = loop_shaping(plant, controller);
     places::put_response(shaping.loop_gain_at(cosines, sines), out)
 }
@@ -78,8 +69,8 @@ pub extern "C" fn bazintroa_sensitivity_at(
         (transferFn (now («controller_b» .entry)) (now («controller_a» .entry)) «controller_order»))
         (now (cosines .entry)) (now (sines .entry))) r (now (out .entry)) (now (out .exit)) ⌝ }
 {
-    let plant = transfer_fn(plant_b, plant_a, plant_order);
-    let controller = transfer_fn(controller_b, controller_a, controller_order);
+    let plant = places::transfer_fn(plant_b, plant_a, plant_order);
+    let controller = places::transfer_fn(controller_b, controller_a, controller_order);
     let shaping = loop_shaping(plant, controller);
     places::put_response(shaping.sensitivity_at(cosines, sines), out)
 }
@@ -100,8 +91,8 @@ pub extern "C" fn bazintroa_comp_sensitivity_at(
         (transferFn (now («controller_b» .entry)) (now («controller_a» .entry)) «controller_order»))
         (now (cosines .entry)) (now (sines .entry))) r (now (out .entry)) (now (out .exit)) ⌝ }
 {
-    let plant = transfer_fn(plant_b, plant_a, plant_order);
-    let controller = transfer_fn(controller_b, controller_a, controller_order);
+    let plant = places::transfer_fn(plant_b, plant_a, plant_order);
+    let controller = places::transfer_fn(controller_b, controller_a, controller_order);
     let shaping = loop_shaping(plant, controller);
     places::put_response(shaping.comp_sensitivity_at(cosines, sines), out)
 }
@@ -122,8 +113,8 @@ pub extern "C" fn bazintroa_control_sensitivity_at(
         (transferFn (now («controller_b» .entry)) (now («controller_a» .entry)) «controller_order»))
         (now (cosines .entry)) (now (sines .entry))) r (now (out .entry)) (now (out .exit)) ⌝ }
 {
-    let plant = transfer_fn(plant_b, plant_a, plant_order);
-    let controller = transfer_fn(controller_b, controller_a, controller_order);
+    let plant = places::transfer_fn(plant_b, plant_a, plant_order);
+    let controller = places::transfer_fn(controller_b, controller_a, controller_order);
     let shaping = loop_shaping(plant, controller);
     places::put_response(shaping.control_sensitivity_at(cosines, sines), out)
 }

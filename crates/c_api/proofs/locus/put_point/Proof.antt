@@ -10,7 +10,7 @@ use Rattle.sweep.specs.declared.Check.the-variants.{Refused}
 use Rattle.sweep.proofs.Answers.{not-zero}
 use Rattle.root_locus.specs.Locus.{pointOf}
 use Rattle.root_locus.specs.declared.LocusPoint.{LocusPoint}
-use Rattle.c_api.specs.Poles.{PointAnswers}
+use Rattle.c_api.specs.Points.{PointAnswers}
 use Rattle.c_api.proofs.locus.put_point.Statement.{statement}
 use Rattle.c_api.proofs.locus.put_point.Tie as tie
 

@@ -1,0 +1,20 @@
+-- Points of the root locus as they cross to a host. Definitions only.
+use Prim.Native.Nat.{ℕ}
+use mathlib.Core.Bool.{cond}
+use mathlib.Core.Path.{_≡_}
+use mathlib.Core.List.{List}
+use lib.Dec.{eqb}
+use lib.Ieee.{Float}
+use Rattle.root_locus.specs.Locus.{Point}
+use Rattle.places.specs.Complex.{partsOf}
+
+-- a place afterwards: what the point has, or what was there where the point is refused
+abbrev pub placedBy : {A : Type 0} → Point → A → A → A
+placedBy p new old = cond (eqb (p .number) 0) new old
+
+-- A call whose point is p returned r. Of each place it says what was there before and after.
+pub record PointAnswers (p : Point) (r : ℕ) (gain gain-after : Float) (poles poles-after : List Float) (count count-after : ℕ) : Type 0 where
+  pub number-is : r ≡ p .number
+  pub gain-is : gain-after ≡ placedBy p (p .gain) gain
+  pub poles-are : poles-after ≡ placedBy p (partsOf (p .poles)) poles
+  pub count-is : count-after ≡ placedBy p (p .count) count
