@@ -8,7 +8,7 @@ fn two(first: f64, second: f64) -> [f64; 8] {
     [first, second, 9.0, 9.0, 9.0, 9.0, 9.0, 9.0]
 }
 
-// At a quarter turn a sample the pairs are (1,-0), (0,-1), (-1,-0). Order 1, b 5, a 2: 5/(1-2j) = 1+2j.
+// At a quarter turn a sample the pairs are (1,-0), (0,-1), (-1,-0). Order 1, b 5, a 2: 5/(1-2j) = 1+2j. Order 9: 16.
 fn value() {
     let b = two(5.0, 9.0);
     let a = two(2.0, 9.0);
@@ -17,6 +17,8 @@ fn value() {
     let mut out = [lines::MARK; 2];
     let number = responses::bazintroa_eval_tf_complex(&b, &a, 1, &cosines, &sines, &mut out);
     lines::complex(b"eval_tf_complex", number, 0, out, [1.0, 2.0]);
+    let number = responses::bazintroa_eval_tf_complex(&b, &a, 9, &cosines, &sines, &mut out);
+    lines::complex(b"eval_tf_complex, refused", number, 16, out, [1.0, 2.0]);
 }
 
 // There the plant of order 1, b 2, a 1 is P = 2/(1-j) = 1+j, and the controller of order 2, b (1, -1), a (0, -1) is
@@ -61,6 +63,7 @@ fn stability() {
 }
 
 // Order 2, b (0, 1), a (-4, 5), point 4 of 9 up to gain 4: at gain 2 the polynomial 1, -2, 5 has the poles 1+2j, 1-2j.
+// Point 9 of 9: 17, and every place stays.
 fn point() {
     let b = two(0.0, 1.0);
     let a = two(-4.0, 5.0);
@@ -86,6 +89,22 @@ fn point() {
     lines::poles(b"locus_point", number, 0, parts, expected);
     lines::real(b"locus_point, its gain", 0, 0, gain, 2.0);
     lines::verdict(b"locus_point, its count", count == 2);
+    let number = locus::bazintroa_locus_point(
+        &b,
+        &a,
+        2,
+        4.0,
+        9,
+        9,
+        &mut gain,
+        &mut parts,
+        &mut count,
+    );
+    lines::poles(b"locus_point, refused", number, 17, parts, expected);
+    lines::verdict(
+        b"locus_point, refused, its gain and count",
+        (gain == 2.0) & (count == 2),
+    );
 }
 
 pub fn run() {

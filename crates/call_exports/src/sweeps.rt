@@ -4,7 +4,7 @@ use super::lines;
 use c_api::grids;
 use c_api::scans;
 
-// Five of six places are filled.
+// Five of six places are filled. One point is too few: 1, and every place stays.
 fn both_grids() {
     let mut list = [lines::MARK; 6];
     let number = grids::bazintroa_fill_gain_grid(8.0, 5, &mut list);
@@ -13,9 +13,13 @@ fn both_grids() {
     let number = grids::bazintroa_fill_frequency_grid(4.0, 5, &mut list);
     let expected = [0.0, 1.0, 2.0, 3.0, 4.0, lines::MARK];
     lines::list(b"fill_frequency_grid", number, 0, &list, &expected);
+    let number = grids::bazintroa_fill_gain_grid(8.0, 1, &mut list);
+    lines::list(b"fill_gain_grid, refused", number, 1, &list, &expected);
+    let number = grids::bazintroa_fill_frequency_grid(4.0, 1, &mut list);
+    lines::list(b"fill_frequency_grid, refused", number, 1, &list, &expected);
 }
 
-// Crossovers 3 and 6, margins 6 and 40.
+// Crossovers 3 and 6, margins 6 and 40. A list that is shorter: 11, and the place stays.
 fn bode() {
     let omega = [1.0, 2.0, 4.0, 8.0];
     let db = [6.0, 2.0, -2.0, -10.0];
@@ -29,6 +33,8 @@ fn bode() {
     lines::real(b"phase_margin", number, 0, out, 40.0);
     let number = scans::bazintroa_gain_margin(&omega, &db, &phase, &mut out);
     lines::real(b"gain_margin", number, 0, out, 6.0);
+    let number = scans::bazintroa_gain_margin(&omega, &db, &[-90.0], &mut out);
+    lines::real(b"gain_margin, refused", number, 11, out, 6.0);
 }
 
 // T 0, -1, -5 at 1, 2, 4: bandwidth 3. S - T -2, 2 at 1, 3: they are equal at 2.
