@@ -14,7 +14,8 @@ use std::thread;
 
 const CRATES: [&str; 2] = ["low", "high"];
 
-/// A repository of two crates, with a script for `rt` that counts its calls.
+/// A repository of two crates, with a script for `rt` that counts its calls. Its files are not named as
+/// Rattle's are: the real `rt` refuses one that stands below the repository and in no crate.
 struct Repository(PathBuf);
 
 impl Repository {
@@ -24,7 +25,7 @@ impl Repository {
         let repository = Repository(folder);
         repository.write("crates.txt", "low:\nhigh: low\n");
         for name in CRATES {
-            for part in ["src/lib.rt", "specs/Spec.antt", "proofs/deep/Proof.antt"] {
+            for part in ["src/lib.txt", "specs/Spec.txt", "proofs/deep/Proof.txt"] {
                 repository.write(&format!("crates/{name}/{part}"), &format!("{name} {part}"));
             }
         }
@@ -51,7 +52,7 @@ impl Repository {
              echo \"rt: $2 proved\"\n\
              {more}\n\
              mkdir -p target/staticlib\n\
-             cat crates/*/src/lib.rt > target/staticlib/lib$2.a\n"
+             cat crates/*/src/lib.txt > target/staticlib/lib$2.a\n"
         );
         // Written by another process: one that starts meanwhile would hold it open for writing.
         let path = self.path("rt");
@@ -145,24 +146,24 @@ fn any_change_of_what_decides_is_seen() {
         assert!(!seen.contains(&sources), "{what}");
         seen.push(sources);
     };
-    for part in ["src/lib.rt", "specs/Spec.antt", "proofs/deep/Proof.antt"] {
+    for part in ["src/lib.txt", "specs/Spec.txt", "proofs/deep/Proof.txt"] {
         repository.write(&format!("crates/low/{part}"), "other");
         changed(part);
     }
     repository.write("crates.txt", "low:\nhigh:\n");
     changed("crates.txt");
-    repository.write("crates/high/proofs/More.antt", "");
+    repository.write("crates/high/proofs/More.txt", "");
     changed("a new file");
-    let (lib, moved) = ("crates/high/src/lib.rt", "crates/high/src/moved.rt");
+    let (lib, moved) = ("crates/high/src/lib.txt", "crates/high/src/moved.txt");
     fs::rename(repository.path(lib), repository.path(moved)).unwrap();
     changed("another name");
     fs::rename(
         repository.path(moved),
-        repository.path("crates/high/specs/moved.rt"),
+        repository.path("crates/high/specs/moved.txt"),
     )
     .unwrap();
     changed("another folder");
-    fs::remove_file(repository.path("crates/high/specs/moved.rt")).unwrap();
+    fs::remove_file(repository.path("crates/high/specs/moved.txt")).unwrap();
     changed("one file less");
     // One file that holds what two held, the name between them too.
     repository.write("crates/low/src/a", "x");
@@ -206,7 +207,7 @@ fn proved_once() {
     let made =
         repository.archives(|archives| archives.get(&mut |line| lines.push(line.to_string())));
     let made = made.unwrap();
-    assert_eq!(made, [b"high src/lib.rtlow src/lib.rt"; 2]);
+    assert_eq!(made, [b"high src/lib.txtlow src/lib.txt"; 2]);
     assert_eq!(lines[1..], ["rt: low proved", "rt: high proved"]);
     assert!(
         lines[0].starts_with("`rt` proves the library"),
@@ -222,10 +223,10 @@ fn proved_once() {
     assert_eq!(repository.proofs(), 2);
 
     // A change is proved, and what was kept before is still there.
-    repository.write("crates/low/src/lib.rt", "changed");
+    repository.write("crates/low/src/lib.txt", "changed");
     assert_ne!(repository.get().unwrap(), made);
     assert_eq!(repository.proofs(), 4);
-    repository.write("crates/low/src/lib.rt", "low src/lib.rt");
+    repository.write("crates/low/src/lib.txt", "low src/lib.txt");
     assert_eq!(repository.get().unwrap(), made);
     assert_eq!(repository.proofs(), 4);
 
@@ -297,7 +298,7 @@ fn what_is_not_proved_is_not_kept() {
     assert!(!repository.path("kept").join(repository.sources()).exists());
 
     // A change while it is proved: the archive may be of either.
-    repository.rt("kit 1", "echo more >> crates/low/src/lib.rt");
+    repository.rt("kit 1", "echo more >> crates/low/src/lib.txt");
     let line = "crates/ or crates.txt was changed while it was proved: build again";
     assert_eq!(repository.get().unwrap_err(), line);
     assert!(!repository.path("kept").join(repository.sources()).exists());
