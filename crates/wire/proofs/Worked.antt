@@ -1,4 +1,4 @@
--- Bytes worked by hand: which end comes first is seen only here, for a number that is written and read from the wrong end is read back too. Assumes nothing.
+-- Bytes worked by hand: the least comes first, eight that are not all there are 0, and bytes are written only where they fit. Assumes nothing.
 use Prim.Native.Nat.{ℕ}
 use mathlib.Core.Path.{_≡_, refl}
 use mathlib.Core.Bool.{false}
