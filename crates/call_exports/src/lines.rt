@@ -1,10 +1,10 @@
 // The lines that the program writes.
 
 // What a place holds before a call.
-pub const MARK: f64 = -7.25;
+pub(crate) const MARK: f64 = -7.25;
 
 // Whether a call gave what is expected.
-pub fn verdict(name: &[u8], right: bool) {
+pub(crate) fn verdict(name: &[u8], right: bool) {
     io::write_all(1, b"bazintroa_");
     io::write_all(1, name);
     if right {
@@ -33,7 +33,7 @@ fn first_other(x: &[f64], y: &[f64]) -> usize {
 }
 
 // A number and places, each with what is expected; where they differ, what they are.
-pub fn list(name: &[u8], number: u32, is: u32, places: &[f64], are: &[f64]) {
+pub(crate) fn list(name: &[u8], number: u32, is: u32, places: &[f64], are: &[f64]) {
     let other = first_other(places, are);
     let right = (number == is) & (other == 16);
     verdict(name, right);
@@ -48,20 +48,20 @@ pub fn list(name: &[u8], number: u32, is: u32, places: &[f64], are: &[f64]) {
     }
 }
 
-pub fn real(name: &[u8], number: u32, is: u32, x: f64, expected: f64) {
+pub(crate) fn real(name: &[u8], number: u32, is: u32, x: f64, expected: f64) {
     list(name, number, is, &[x], &[expected]);
 }
 
-pub fn complex(name: &[u8], number: u32, is: u32, z: [f64; 2], expected: [f64; 2]) {
+pub(crate) fn complex(name: &[u8], number: u32, is: u32, z: [f64; 2], expected: [f64; 2]) {
     list(name, number, is, &z, &expected);
 }
 
-pub fn poles(name: &[u8], number: u32, is: u32, parts: [f64; 16], expected: [f64; 16]) {
+pub(crate) fn poles(name: &[u8], number: u32, is: u32, parts: [f64; 16], expected: [f64; 16]) {
     list(name, number, is, &parts, &expected);
 }
 
 // A comparison that finds nothing is found here.
-pub fn tell_apart() {
+pub(crate) fn tell_apart() {
     let last = first_other(&[1.0, 2.0], &[1.0, 3.0]);
     let sign = first_other(&[0.0], &[-0.0]);
     if (last == 1) & (sign == 0) {

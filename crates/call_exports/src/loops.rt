@@ -107,7 +107,7 @@ fn point() {
     );
 }
 
-pub fn run() {
+pub(crate) fn run() {
     value();
     four_responses();
     stability();

@@ -40,7 +40,7 @@ fn quotients() {
     lines::complex(b"complex_divide_or_zero", 0, 0, out, [1.0, 2.0]);
 }
 
-pub fn run() {
+pub(crate) fn run() {
     scalars();
     arithmetic();
     quotients();

@@ -104,7 +104,7 @@ fn curve_summaries() {
     lines::real(b"curve_join", 0, 0, nearest, 0.5);
 }
 
-pub fn run() {
+pub(crate) fn run() {
     bode_summaries();
     bandwidths();
     crossovers();

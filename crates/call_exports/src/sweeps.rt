@@ -61,7 +61,7 @@ fn curve() {
     lines::real(b"distance_to_critical", number, 0, out, 0.5);
 }
 
-pub fn run() {
+pub(crate) fn run() {
     both_grids();
     bode();
     sensitivity();
