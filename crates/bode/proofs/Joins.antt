@@ -3,8 +3,10 @@
 use mathlib.Core.Path.{_≡_, refl, sym, _∙_}
 use mathlib.Core.Bool.{Bool, true, false}
 use mathlib.Core.List.{List, [], _++_}
+use lib.Ieee.{Float}
 use Rattle.sweep.specs.Answer.{crossingOutcome}
 use Rattle.sweep.specs.Runs.{Cuts, listOf, joinedUp}
+use Rattle.sweep.specs.declared.Crossing.the-variants.{At, Missing}
 use Rattle.sweep.proofs.Scans.{some-append, first-behind, last-behind, crossing-behind}
 use Rattle.sweep.proofs.Runs.{join-assoc, neutral-before, neutral-behind, fed-uncut, joined-uncut}
 use Rattle.bode.specs.Bode.{gainPair, phasePair, gainCrossover, phaseCrossover, crossoverOf}
@@ -12,6 +14,7 @@ use Rattle.bode.specs.Summary.{zeroReading, summaryOf, behind, fedBy, jo
 use Rattle.bode.specs.declared.Crossover.{Crossover}
 use Rattle.bode.specs.declared.Crossover.the-variants.{Gain, Phase}
 use Rattle.bode.specs.declared.Reading.{Reading}
+use Rattle.bode.specs.declared.summary.BodeSummary.{BodeSummary}
 
 -- ---- the two laws
 
@@ -42,6 +45,32 @@ answer-is Phase l m = refl
 
 blind : (which : Crossover) (l : List Reading) (m n : Bool) → answerOf which (summaryOf l m) ≡ answerOf which (summaryOf l n)
 blind which l m n = answer-is which l m ∙ sym (answer-is which l n)
+
+-- ---- of any two summaries, those too that no call made: what has no readings has no part in the ends, and a crossing that is there stays
+module _ (s t : BodeSummary) where
+  pub first-of-later : s .read ≡ false → joinOf s t .first ≡ t .first
+  unfolding joinOf behind
+  first-of-later h = rw h
+
+  pub last-of-earlier : t .read ≡ false → joinOf s t .last ≡ s .last
+  unfolding joinOf behind
+  last-of-earlier h = rw h
+
+  pub gain-stays : {w : Float} → s .gain ≡ At w → joinOf s t .gain ≡ At w
+  unfolding joinOf behind
+  gain-stays h = rw h
+
+  pub phase-stays : {w : Float} → s .phase ≡ At w → joinOf s t .phase ≡ At w
+  unfolding joinOf behind
+  phase-stays h = rw h
+
+  pub gain-of-later : s .read ≡ false → s .gain ≡ Missing → joinOf s t .gain ≡ t .gain
+  unfolding joinOf behind
+  gain-of-later h e = rw (h, e)
+
+  pub phase-of-later : s .read ≡ false → s .phase ≡ Missing → joinOf s t .phase ≡ t .phase
+  unfolding joinOf behind
+  phase-of-later h e = rw (h, e)
 
 -- ---- joining is associative, and the empty summary neutral
 

@@ -5,16 +5,19 @@ use mathlib.Core.Path.{_≡_, refl, sym, _∙_, ap}
 use mathlib.Core.Bool.{Bool, true, false, _&&_}
 use mathlib.Core.List.{List, [], _∷_, _++_}
 use lib.ListN.{length, getD}
+use lib.Ieee.{Float}
 use Rattle.sweep.specs.Answer.{crossingOutcome, keptOutcome, keptOf, orKept}
 use Rattle.sweep.specs.Runs.{Cuts, listOf, joinedUp}
 use Rattle.sweep.specs.Scan.{orElse, firstPair, notEmpty, crossingAt}
 use Rattle.sweep.specs.declared.Crossing.{Crossing}
+use Rattle.sweep.specs.declared.Crossing.the-variants.{At, Missing}
 use Rattle.sweep.specs.declared.Kept.the-variants.{NotKept}
 use Rattle.sweep.proofs.Scans.{orElse-assoc, kept-outcome, kept-or, some-append, first-behind, last-behind, crossing-behind}
 use Rattle.sweep.proofs.Runs.{join-assoc, neutral-before, neutral-behind, fed-uncut, joined-uncut}
 use Rattle.sensitivity.specs.Scans.{zeroReading, equalPair, dropPair, levelOf, sensitivityCrossover, bandwidthOf}
 use Rattle.sensitivity.specs.Summary.{bandwidthUnder, summaryOf, joinOf, dropBehind, fedBy, crossoverAnswer, bandwidthAnswer, bandwidthOutcome}
 use Rattle.sensitivity.specs.declared.Reading.{Reading}
+use Rattle.sensitivity.specs.declared.summary.SensitivitySummary.{SensitivitySummary}
 
 -- ---- the bandwidth of one list behind another
 
@@ -79,6 +82,24 @@ bandwidth-answer l false = kept-outcome (bandwidthOf l)
 blind-crossover : (l : List Reading) (m n : Bool) → crossoverAnswer (summaryOf l m) ≡ crossoverAnswer (summaryOf l n)
 unfolding crossoverAnswer summaryOf
 blind-crossover l m n = refl
+
+-- ---- of any two summaries, those too that no call made: what has no readings has no part in the ends, and a crossing that is there stays
+module _ (s t : SensitivitySummary) where
+  pub first-of-later : s .read ≡ false → joinOf s t .first ≡ t .first
+  unfolding joinOf
+  first-of-later h = rw h
+
+  pub last-of-earlier : t .read ≡ false → joinOf s t .last ≡ s .last
+  unfolding joinOf
+  last-of-earlier h = rw h
+
+  pub crossover-stays : {w : Float} → s .crossover ≡ At w → joinOf s t .crossover ≡ At w
+  unfolding joinOf
+  crossover-stays h = rw h
+
+  pub crossover-of-later : s .read ≡ false → s .crossover ≡ Missing → joinOf s t .crossover ≡ t .crossover
+  unfolding joinOf
+  crossover-of-later h e = rw (h, e)
 
 -- ---- joining is associative, and the empty summary neutral for the crossover
 
