@@ -19,7 +19,7 @@ fn both_grids() {
     lines::list(b"fill_frequency_grid, refused", number, 1, &list, &expected);
 }
 
-// Crossovers 3 and 6, margins 6 and 40. A list that is shorter: 11, and the place stays.
+// Crossovers 3 and 6, margins 6 and 40. A list that is shorter: 11, and one reading: 100, and the place stays.
 fn bode() {
     let omega = [1.0, 2.0, 4.0, 8.0];
     let db = [6.0, 2.0, -2.0, -10.0];
@@ -35,6 +35,8 @@ fn bode() {
     lines::real(b"gain_margin", number, 0, out, 6.0);
     let number = scans::bazintroa_gain_margin(&omega, &db, &[-90.0], &mut out);
     lines::real(b"gain_margin, refused", number, 11, out, 6.0);
+    let number = scans::bazintroa_gain_crossover_frequency(&[1.0], &[6.0], &[-90.0], &mut out);
+    lines::real(b"gain_crossover_frequency, none", number, 100, out, 6.0);
 }
 
 // T 0, -1, -5 at 1, 2, 4: bandwidth 3. S - T -2, 2 at 1, 3: they are equal at 2.
