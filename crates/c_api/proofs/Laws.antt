@@ -7,7 +7,7 @@ use borrow.Author.Tests.{ne-eqb}
 use lib.Ieee.{Float, binary64, round, add, sub, mul, div, lt, ofBits}
 use Rattle.laws.specs.Outcome.{Outcome, found, answered}
 use Rattle.complex.specs.declared.Complex.{Complex}
-use Rattle.complex.specs.Complex.{newOf, fromReal, valuesOf, product, magnitudeSq, small, ratio, quotientOrZero}
+use Rattle.complex.specs.Complex.{newOf, fromReal, product, magnitudeSq, small, ratio, quotientOrZero}
 use Rattle.transfer_fn.specs.Evaluation.{sumUp, termOf, pairSum, numerator, denominator, valueAt, evaluationRefusal}
 use Rattle.sensitivity.specs.Responses.{loopGain, sensitivity, compSensitivity, controlSensitivity, responseBy}
 use Rattle.root_locus.specs.Locus.{Point}

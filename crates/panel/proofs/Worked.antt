@@ -2,7 +2,7 @@
 use Prim.Native.Nat.{ℕ}
 use mathlib.Core.Path.{_≡_, refl}
 use mathlib.Core.Bool.{true, false}
-use mathlib.Core.List.{List, [], _∷_}
+use mathlib.Core.List.{[], _∷_}
 use lib.Ieee.{Float, binary64, round, ofBits, toBits}
 use Rattle.laws.specs.Loops.{upTo}
 use Rattle.wire.specs.Bytes.{littleEndian, leBytes, u64At, f64At, f64Bytes}

@@ -1,8 +1,7 @@
 -- Bytes worked by hand: the least comes first, eight that are not all there are 0, and bytes are written only where they fit. Assumes nothing.
-use Prim.Native.Nat.{ℕ}
 use mathlib.Core.Path.{_≡_, refl}
 use mathlib.Core.Bool.{false}
-use mathlib.Core.List.{List, [], _∷_}
+use mathlib.Core.List.{[], _∷_}
 use lib.Ieee.{binary64, round, ofBits, toBits}
 use Rattle.wire.specs.Bytes.{littleEndian, leBytes, u64At, f64At, f64Bytes, overwritten}
 
