@@ -7,16 +7,19 @@ use mathlib.Core.Logic.{_⊎_, inl, inr, ⊎-elim}
 use mathlib.Core.List.{List, [], _∷_}
 use native.Mathlib.Omega.{arith}
 use borrow.Author.Tests.{ltb-true, ltb-false, le-ltb}
+use lib.IntN.{pos}
 use lib.Dec.{ltb}
 use lib.ListN.{length, getD}
-use lib.Ieee.{Float, lt, isNan}
+use lib.Ieee.{Float, binary64, lt, isNan, ofInt, toUnsigned}
+use lib.Ieee.Back.{unsigned-back}
 use Rattle.complex.specs.declared.Complex.{Complex}
+use Rattle.sweep.proofs.Grids.{exact}
 use Rattle.root_locus.specs.declared.ending.Ending.{Ending}
 use Rattle.root_locus.specs.declared.ending.Ending.the-variants.{Settled, Spent, Broken}
 use Rattle.root_locus.specs.Polynomial.{degreeOf}
 use Rattle.root_locus.specs.StartingPoints.{startingPoints}
 use Rattle.root_locus.specs.Search.{tolerance, nowhere, oneRound, Run, begun, further, run, after, changeAfter}
-use Rattle.root_locus.specs.Ending.{someNan, unlessNan, endOf}
+use Rattle.root_locus.specs.Ending.{someNan, unlessNan, endOf, endingValue}
 use Rattle.root_locus.specs.Roots.{monic, searched, searchRun, byDegree, searchEnd, endingByDegree}
 use Rattle.root_locus.proofs.Padding.{search-roots}
 
@@ -183,15 +186,16 @@ module _ (p : List Float) where
           let l : 4 ≤ degreeOf p = ltb-false (degreeOf p) 4 e in
           let n : k ≡ suc (r .m) = sym i ∙ r .used-are ∙ omega arith in
           let m : k - 1 ≡ r .m = omega arith in
-          inr
-          (l,
-          record {
-            least = omega arith;
-            most = omega (arith, r .few);
-            poles = rw n (poles-are l);
-            stopped = rw (m, ← r .last-is) f;
-            going = λ j q. r .going j (rw m at q);
-          })
+          inr (
+            l,
+            record {
+              least = omega arith;
+              most = omega (arith, r .few);
+              poles = rw n (poles-are l);
+              stopped = rw (m, ← r .last-is) f;
+              going = λ j q. r .going j (rw m at q);
+            },
+          )
       go false false e f h = let i : _≡_ {A = ℕ} 0 1 = cc in absurd (omega arith)
 
   -- Spent: 200 rounds of the search ran, and the last change is not below the tolerance.
@@ -208,13 +212,14 @@ module _ (p : List Float) where
           let r = search-ran in
           let l : 4 ≤ degreeOf p = ltb-false (degreeOf p) 4 e in
           let m : r .m ≡ 199 = ⊎-elim (λ t. absurd (true≢false (sym t ∙ f))) (λ k. k) (r .ended) in
-          let last : c ≡ changeAfter (monic p) 199 start = sym i ∙ r .last-is ∙ ap (λ (j : ℕ). changeAfter (monic p) j start) m in
-          (l,
-          record {
-            poles = poles-are l ∙ ap (λ (j : ℕ). after (monic p) (suc j) start) m;
-            last = last;
-            going = λ j q. either j (ltb j 199) refl q (r .going j) m (rw (i, last) at f);
-          })
+          let last : c ≡ changeAfter (monic p) 199 start = sym i ∙ r .last-is ∙ ap (λ (j : ℕ). changeAfter (monic p) j start) m in (
+            l,
+            record {
+              poles = poles-are l ∙ ap (λ (j : ℕ). after (monic p) (suc j) start) m;
+              last = last;
+              going = λ j q. either j (ltb j 199) refl q (r .going j) m (rw (i, last) at f);
+            },
+          )
         where
           either : (j : ℕ) (b : Bool) → ltb j 199 ≡ b → j < 200 → (j < search-ran .m → below j ≡ false) → search-ran .m ≡ 199 → below 199 ≡ false → below j ≡ false
           either j true e q before m at-last = let l = ltb-true j 199 e in before (omega arith)
@@ -255,3 +260,10 @@ module _ (p : List Float) where
         go (Settled i) h =
             ⊎-elim (λ w. absurd (omega (arith, w .0))) (λ w. absurd (true≢false (sym (w .1 .stopped) ∙ s .going (i - 1) (omega (arith, w .1 .least, w .1 .most))))) (ending-settled h)
         go (Spent d) h = rw (ending-spent h .1 .last ∙ sym (s .last))
+
+-- ---- the value of a settled ending tells its rounds
+pub rounds-known : {j k : ℕ} → j ≤ 200 → k ≤ 200 → endingValue (Settled j) ≡ endingValue (Settled k) → j ≡ k
+rounds-known {j} {k} h l e = sym (back j h) ∙ ap (toUnsigned 64) e ∙ back k l
+  where
+    back : (n : ℕ) → n ≤ 200 → toUnsigned 64 (ofInt binary64 (pos n)) ≡ n
+    back n h = unsigned-back binary64 64 n (exact n (omega arith)) (omega arith) .1
