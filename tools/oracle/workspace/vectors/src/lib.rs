@@ -3,6 +3,7 @@
 pub mod coefficients;
 pub mod complex;
 pub mod constant;
+pub mod ending;
 pub mod grids;
 pub mod locus;
 pub mod numbers;
