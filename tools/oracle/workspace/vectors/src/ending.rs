@@ -30,6 +30,7 @@ impl Ending {
         if let Some(Rounds { ran, last_change }) = rounds {
             assert!((1..=MAX_ROUNDS).contains(&ran));
             assert!(ran == MAX_ROUNDS || last_change < SETTLED_BELOW);
+            assert!(!last_change.is_nan());
         }
         if poles.iter().flatten().any(|part| part.is_nan()) {
             return Self::Broken;
@@ -56,6 +57,22 @@ impl Ending {
             Self::Spent(last_change) => last_change,
             Self::Broken => 0.0,
         }
+    }
+
+    /// The kinds that it is not.
+    pub fn other_kinds(self) -> impl Iterator<Item = u64> {
+        let kinds = [SETTLED, SPENT, BROKEN].into_iter();
+        kinds.filter(move |&kind| kind != self.kind())
+    }
+
+    /// Values that are wrong: a round more or less.
+    pub fn other_values(self) -> impl Iterator<Item = f64> {
+        let steps = match self {
+            Self::Settled(0) => &[1.0][..],
+            Self::Settled(_) => &[1.0, -1.0],
+            Self::Spent(_) | Self::Broken => &[],
+        };
+        steps.iter().map(move |step| self.value() + step)
     }
 
     pub fn name(self) -> &'static str {

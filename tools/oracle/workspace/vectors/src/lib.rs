@@ -11,6 +11,7 @@ pub mod panel;
 pub mod random;
 pub mod rows;
 pub mod scans;
+pub mod searches;
 pub mod sensitivity;
 pub mod start_table;
 pub mod summaries;

@@ -9,6 +9,7 @@ use crate::numbers::{
 };
 use crate::random::{beside, power_of_two, specials, with_neighbours, Random, EPS};
 use crate::rows::{float, pair, Rows};
+use crate::searches;
 use crate::words::{expected_bits, Words};
 use heapless::Vec as HVec;
 use oxictl::core::frequency_domain::{compute_root_locus, stability_region, Complex};
@@ -212,17 +213,20 @@ pub fn vectors() -> Words {
     points.extend(refused(random));
 
     let mut words = Words::default();
+    let mut endings = Vec::new();
     for point in &points {
-        write_point(&mut words, point);
+        endings.extend(write_point(&mut words, point));
     }
     for region in regions(random) {
         write_region(&mut words, &region);
     }
     let mut points = starting_points(random);
     points.extend(zeros(random));
+    points.extend(searches::points(random));
     for point in &points {
-        write_point(&mut words, point);
+        endings.extend(write_point(&mut words, point));
     }
+    searches::assert_all(&endings);
 
     words.wrong_on_purpose(|_| ());
     for no_question in [0, 3] {
@@ -341,7 +345,8 @@ fn row(rows: &mut Rows, point: &Point) {
     }
 }
 
-fn write_point(words: &mut Words, point: &Point) {
+/// Writes a case. If it is not refused it has a count of poles and an ending.
+fn write_point(words: &mut Words, point: &Point) -> Option<(usize, Ending)> {
     words.word(POINT);
     words.arguments(&[point.k_max]);
     words.word(point.function.order);
@@ -350,13 +355,22 @@ fn write_point(words: &mut Words, point: &Point) {
     words.arguments(&point.function.b);
     words.arguments(&point.function.a);
     let answer = point.checked_answer();
-    words.expected(true, written(&answer).to_vec());
-    words.count(match answer {
+    let expected = written(&answer);
+    words.expected(true, expected.to_vec());
+    match answer {
         Ok(Found { poles, ending, .. }) => {
-            format!("point {VALUE}, {} poles, {}", poles.len(), ending.name())
+            let [kind, value] = [ENDING, ENDING + 1];
+            words.or_wrong(ending.other_kinds().map(|other| (kind, other)));
+            words.or_wrong(ending.other_values().map(|other| (value, other.to_bits())));
+            let count = poles.len();
+            words.count(format!("point {VALUE}, {count} poles, {}", ending.name()));
+            Some((count, ending))
         }
-        Err(number) => format!("point {number}"),
-    });
+        Err(number) => {
+            words.count(format!("point {number}"));
+            None
+        }
+    }
 }
 
 fn write_region(words: &mut Words, region: &Region) {
@@ -372,6 +386,9 @@ fn bits_of(poles: &[[f64; 2]]) -> Vec<u64> {
     poles.concat().into_iter().map(expected_bits).collect()
 }
 
+/// Where the ending stands among the words of an answer.
+const ENDING: usize = 19;
+
 /// The words of an answer: its number, the gain, the count of poles, places for eight of them, the
 /// ending's kind and value.
 fn written(answer: &Answer) -> [u64; 21] {
@@ -383,8 +400,8 @@ fn written(answer: &Answer) -> [u64; 21] {
             words[2] = found.poles.len() as u64;
             let parts = bits_of(&found.poles);
             words[3..][..parts.len()].copy_from_slice(&parts);
-            words[19] = found.ending.kind();
-            words[20] = expected_bits(found.ending.value());
+            words[ENDING] = found.ending.kind();
+            words[ENDING + 1] = expected_bits(found.ending.value());
         }
         Err(number) => words[0] = *number,
     }
@@ -627,14 +644,14 @@ fn product(first: &[f64], second: &[f64]) -> Vec<f64> {
 }
 
 /// The polynomial with these roots, up to rounding.
-fn with_roots(roots: &[f64]) -> Vec<f64> {
+pub fn with_roots(roots: &[f64]) -> Vec<f64> {
     roots.iter().fold(vec![1.0], |polynomial, root| {
         product(&polynomial, &[1.0, -root])
     })
 }
 
 /// The leading 1 and then `degree` coefficients.
-fn monic(degree: usize, mut coefficient: impl FnMut() -> f64) -> Vec<f64> {
+pub fn monic(degree: usize, mut coefficient: impl FnMut() -> f64) -> Vec<f64> {
     let mut list = vec![1.0];
     list.extend((0..degree).map(|_| coefficient()));
     list
