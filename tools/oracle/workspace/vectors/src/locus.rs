@@ -328,15 +328,16 @@ fn inner_point(random: &mut Random, order: u64) -> Point {
     }
 }
 
-fn row(rows: &mut Rows, point: &Point) {
+/// A question about a point in the words of the definitions.
+pub fn case(rows: &mut Rows, question: &str, point: &Point) -> String {
     let function = format!(" {}", point.function.text());
     let function = rows.name("function", "TransferFn", &function);
-    let case = format!(
-        "locusPoint {function} {} {} {}",
-        float(point.k_max),
-        point.n,
-        point.i
-    );
+    let Point { k_max, n, i, .. } = *point;
+    format!("{question} {function} {} {n} {i}", float(k_max))
+}
+
+fn row(rows: &mut Rows, point: &Point) {
+    let case = case(rows, "locusPoint", point);
     match point.answer() {
         Ok(Found { gain, poles, .. }) => {
             rows.row(&case, VALUE, &[vec![gain], poles.concat()].concat())

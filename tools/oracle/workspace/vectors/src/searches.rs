@@ -1,9 +1,10 @@
 //! Points of the locus by how the root search for their poles ends.
 
 use crate::ending::{Ending, BROKEN, MAX_ROUNDS, SETTLED_BELOW, SPENT};
-use crate::locus::{monic, with_roots, Found, Point};
-use crate::numbers::MAX_ORDER;
+use crate::locus::{case, monic, with_roots, Found, Point};
+use crate::numbers::{MAX_ORDER, VALUE};
 use crate::random::{next_above, power_of_two, Random, EPS};
+use crate::rows::Rows;
 use std::collections::BTreeMap;
 use std::ops::RangeInclusive;
 
@@ -38,6 +39,65 @@ pub fn points(random: &mut Random) -> Vec<Point> {
         points.extend(by_nans(random, degree));
     }
     points
+}
+
+/// Rows for the prover, of short searches alone.
+pub fn rows(rows: &mut Rows, random: &mut Random) {
+    let [nan, inf] = [f64::NAN, f64::INFINITY];
+    rows.table(
+        "endings",
+        "how the search ended: direct formulas, with NaNs and infinite poles; no poles; refusals",
+    );
+    for polynomial in [
+        &[1.0, -0.5][..],
+        &[1.0, nan],
+        &[0.0, nan],
+        &[1.0, -inf],
+        &[2.0, -1.5, 0.25],
+        &[0.5, 1.0, nan],
+        &[1.0, inf, 1.0],
+        &[1.0, -inf, 1.0],
+        &[1.0, 1.0, inf],
+        &[1.0, -0.5, 0.25, 2.0],
+    ] {
+        let point = Point::of_polynomial(random, polynomial);
+        row(rows, &point);
+    }
+    let mut point = Point::of_polynomial(random, &[1.0, 2.0, nan]);
+    point.i = point.n;
+    row(rows, &point);
+    rows.table(
+        "endedAtOnce",
+        "how the search ended: settled in round 1; broken in it, with the first pole or with none that is not NaN",
+    );
+    for polynomial in [
+        &[1.0, 0.0, 0.0, 0.0, -1.0][..],
+        &[1.0, -1.0, 1.7e308, -1.7e308, 0.0, 0.0],
+        &[1.0, 0.5, nan, -0.25, 2.0],
+    ] {
+        let point = Point::of_polynomial(random, polynomial);
+        row(rows, &point);
+    }
+    rows.table(
+        "endedSoon",
+        "how the search ended: settled in rounds 2 and 5; broken in round 2",
+    );
+    for polynomial in [
+        [1.0, 0.0, 0.0, 0.0, -1.0 - power_of_two(-20)],
+        [1.0, 0.0, 0.0, 0.0, -2.0],
+        [1.0, -3.0, -1.0, -3.0, power_of_two(164)],
+    ] {
+        let point = Point::of_polynomial(random, &polynomial);
+        row(rows, &point);
+    }
+}
+
+fn row(rows: &mut Rows, point: &Point) {
+    let case = case(rows, "locusEnding", point);
+    match point.answer() {
+        Ok(Found { ending, .. }) => rows.row(&case, VALUE, &[ending.kind() as f64, ending.value()]),
+        Err(number) => rows.row(&case, number, &[]),
+    }
 }
 
 fn found(point: &Point) -> Found {
