@@ -9,7 +9,30 @@ use std::collections::BTreeMap;
 use std::ops::RangeInclusive;
 
 /// The degrees for which there is a search.
-pub const DEGREES: RangeInclusive<usize> = 4..=MAX_ORDER as usize;
+const DEGREES: RangeInclusive<usize> = 4..=MAX_ORDER as usize;
+
+/// Two roots meet next to (-1, 0), where the polynomial is 8, and are skipped from then on.
+const MEETING: [f64; 5] = [1.0, -2.0, 4.0, 2.0, 3.0];
+
+/// Polynomials at the edges of the endings.
+pub fn edges(random: &mut Random) -> Vec<Vec<f64>> {
+    let known = known(random).into_iter().map(|(polynomial, _)| polynomial);
+    let mut list: Vec<_> = known.collect();
+    list.push(MEETING.into());
+    list.extend(far_jumps());
+    list.extend(late_nans());
+    list
+}
+
+/// A polynomial whose search is slow, or often spent, or mostly broken.
+pub fn hard(random: &mut Random) -> Vec<f64> {
+    let degree = DEGREES.start() + random.below(DEGREES.count() as u64) as usize;
+    match random.below(5) {
+        0 | 1 => slow(random, degree),
+        2 | 3 => uneven(random, degree),
+        _ => overflowing(random, degree),
+    }
+}
 
 /// Points whose searches end in each way, as `assert_all` wants them.
 pub fn points(random: &mut Random) -> Vec<Point> {
@@ -19,8 +42,7 @@ pub fn points(random: &mut Random) -> Vec<Point> {
         assert_eq!(found(&point).ending, ending, "{polynomial:?}");
         points.push(point);
     }
-    // Two roots meet next to (-1, 0), where the polynomial is 8, and are skipped from then on.
-    let point = Point::of_polynomial(random, &[1.0, -2.0, 4.0, 2.0, 3.0]);
+    let point = Point::of_polynomial(random, &MEETING);
     let Found { poles, ending, .. } = found(&point);
     assert_eq!(ending, Ending::Settled(31));
     let met = |&&[re, im]: &&[f64; 2]| re == -1.0 && im.abs() < 1e-15;
@@ -229,7 +251,7 @@ fn by_nans(random: &mut Random, degree: usize) -> Vec<Point> {
 }
 
 /// Polynomials, and how each must end: from the leading coefficient on.
-pub fn known(random: &mut Random) -> Vec<(Vec<f64>, Ending)> {
+fn known(random: &mut Random) -> Vec<(Vec<f64>, Ending)> {
     let mut list = direct(random);
     list.extend(of_one_round(random));
     list.extend(next_to_the_limit());
@@ -408,7 +430,7 @@ fn late_nans() -> Vec<Vec<f64>> {
 }
 
 /// A root more than once, beside others, with a coefficient moved a little: the search takes long.
-pub fn slow(random: &mut Random, degree: usize) -> Vec<f64> {
+fn slow(random: &mut Random, degree: usize) -> Vec<f64> {
     let times = 2 + random.below(degree as u64 - 1) as usize;
     if random.below(2) == 0 {
         let mut quarters =
@@ -435,7 +457,7 @@ fn soon(random: &mut Random, degree: usize) -> Vec<f64> {
 }
 
 /// Coefficients that differ much in size, or small whole numbers: all rounds are often spent.
-pub fn uneven(random: &mut Random, degree: usize) -> Vec<f64> {
+fn uneven(random: &mut Random, degree: usize) -> Vec<f64> {
     match random.below(4) {
         // One root is huge.
         0 => {
@@ -455,7 +477,7 @@ pub fn uneven(random: &mut Random, degree: usize) -> Vec<f64> {
 }
 
 /// Coefficients so large that values overflow.
-pub fn overflowing(random: &mut Random, degree: usize) -> Vec<f64> {
+fn overflowing(random: &mut Random, degree: usize) -> Vec<f64> {
     match random.below(4) {
         0 => {
             let size = 1 + random.below(1020) as i32;
