@@ -3,7 +3,7 @@ use Prim.Native.Nat.{ℕ, _<_}
 use lib.ListN.{length, getD}
 use Rattle.worked_cases.specs.Cases.{Row, Right}
 use Rattle.worked_cases.proofs.Rows.{right, AllRight, row-at, _and_}
-use Rattle.checked_definitions.specs.Asked.{squareRoots, complexNumbers, responses, starts, formulas, quartic, quintic, sextic, septic, octic, searches, regions, scans, grids, summaries, asked}
+use Rattle.checked_definitions.specs.Asked.{squareRoots, complexNumbers, responses, starts, formulas, quartic, quintic, sextic, septic, octic, searches, regions, endings, endedAtOnce, endedSoon, scans, grids, summaries, asked}
 
 square-roots-right : AllRight squareRoots
 unfolding right squareRoots
@@ -53,6 +53,18 @@ regions-right : AllRight regions
 unfolding right regions
 regions-right = record { test = tt }
 
+endings-right : AllRight endings
+unfolding right endings
+endings-right = record { test = tt }
+
+ended-at-once-right : AllRight endedAtOnce
+unfolding right endedAtOnce
+ended-at-once-right = record { test = tt }
+
+ended-soon-right : AllRight endedSoon
+unfolding right endedSoon
+ended-soon-right = record { test = tt }
+
 scans-right : AllRight scans
 unfolding right scans
 scans-right = record { test = tt }
@@ -67,7 +79,7 @@ summaries-right = record { test = tt }
 
 pub asked-right : AllRight asked
 unfolding asked
-asked-right = square-roots-right and complex-numbers-right and responses-right and starts-right and formulas-right and quartic-right and quintic-right and sextic-right and septic-right and octic-right and searches-right and regions-right and scans-right and grids-right and summaries-right
+asked-right = square-roots-right and complex-numbers-right and responses-right and starts-right and formulas-right and quartic-right and quintic-right and sextic-right and septic-right and octic-right and searches-right and regions-right and endings-right and ended-at-once-right and ended-soon-right and scans-right and grids-right and summaries-right
 
 pub asked-at : (k : ℕ) (d : Row) → k < length asked → Right (getD asked k d)
 asked-at k d h = row-at asked-right k d h
