@@ -60,23 +60,19 @@ settled-else h = let i : _≡_ {A = ℕ} 0 1 = cc in absurd (omega arith)
 spent-else : {c : Float} → Spent c ≡ Broken → ⊥
 spent-else h = let i : _≡_ {A = ℕ} 0 1 = cc in absurd (omega arith)
 
--- rounds alone never end so
-never-broken : (used : ℕ) (last : Float) → endOf used last ≡ Broken → ⊥
-unfolding endOf
-never-broken used last h = go (lt last tolerance) h
-  where
-    go : (b : Bool) → cond b (Settled used) (Spent last) ≡ Broken → ⊥
-    go true h = settled-else h
-    go false h = spent-else h
+either-else : (b : Bool) {e f : Ending} → (e ≡ Broken → ⊥) → (f ≡ Broken → ⊥) → cond b e f ≡ Broken → ⊥
+either-else true h k i = h i
+either-else false h k i = k i
 
--- what is not broken ends as its rounds or its formulas did
-unless-means : (zs : List Complex) (e f : Ending) → (f ≡ Broken → ⊥) → unlessNan zs e ≡ f → e ≡ f
-unfolding unlessNan
-unless-means zs e f h k = go (someNan zs) k
+-- Broken exactly where some part of a pole is NaN. Rounds and formulas alone never end so.
+pub ending-broken : (p : List Float) → (endingByDegree p ≡ Broken → NanIn (byDegree p)) × (NanIn (byDegree p) → endingByDegree p ≡ Broken)
+unfolding endingByDegree unlessNan searchEnd endOf
+ending-broken p = (λ h. nan-found (byDegree p) (go (someNan (byDegree p)) h), λ n. rw (nan-seen (byDegree p) n))
   where
-    go : (b : Bool) → cond b Broken e ≡ f → e ≡ f
-    go true k = absurd (h (sym k))
-    go false k = k
+    go : (b : Bool) → cond b Broken (cond (ltb (degreeOf p) 4) (Settled 0) (cond (lt (searchRun p .last) tolerance) (Settled (searchRun p .used)) (Spent (searchRun p .last)))) ≡ Broken
+        → b ≡ true
+    go true h = refl
+    go false h = absurd (either-else (ltb (degreeOf p) 4) settled-else (either-else (lt (searchRun p .last) tolerance) settled-else spent-else) h)
 
 -- ---- what up to n + 1 rounds from s on leave: m + 1 rounds ran, none before the last was below, and the last one was, or n + 1 had run
 pub record Ran (norm : List Float) (n : ℕ) (s r : Run) : Type 0 where
@@ -115,6 +111,15 @@ ran norm (suc n) s = let t = further norm s in go (lt (t .last) tolerance) refl 
           going = λ j l. first j e (λ i k. next .going i (omega arith));
           ended = ⊎-elim (λ t. inl t) (λ k. inr (ap suc k)) (next .ended);
         }
+
+-- what is not broken ends as its rounds or its formulas did
+unless-means : (zs : List Complex) (e f : Ending) → (f ≡ Broken → ⊥) → unlessNan zs e ≡ f → e ≡ f
+unfolding unlessNan
+unless-means zs e f h k = go (someNan zs) k
+  where
+    go : (b : Bool) → cond b Broken e ≡ f → e ≡ f
+    go true k = absurd (h (sym k))
+    go false k = k
 
 -- ---- the search of a polynomial
 module _ (p : List Float) where
@@ -157,15 +162,6 @@ module _ (p : List Float) where
 
   poles-are : 4 ≤ degreeOf p → byDegree p ≡ after (monic p) (suc (search-ran .m)) start
   poles-are h = searched-by h ∙ sym (search-roots p) ∙ search-ran .roots-are
-
-  pub ending-broken : (endingByDegree p ≡ Broken → NanIn (byDegree p)) × (NanIn (byDegree p) → endingByDegree p ≡ Broken)
-  unfolding endingByDegree unlessNan searchEnd
-  ending-broken = (λ h. nan-found (byDegree p) (go (someNan (byDegree p)) (ltb (degreeOf p) 4) h), λ n. rw (nan-seen (byDegree p) n))
-    where
-      go : (b c : Bool) → cond b Broken (cond c (Settled 0) (endOf (searchRun p .used) (searchRun p .last))) ≡ Broken → b ≡ true
-      go true c h = refl
-      go false true h = absurd (settled-else h)
-      go false false h = absurd (never-broken _ _ h)
 
   -- the ending without the NaN: by formulas, or by the rounds
   ending-else : {e : Ending} → (e ≡ Broken → ⊥) → endingByDegree p ≡ e → cond (ltb (degreeOf p) 4) (Settled 0) (searchEnd p) ≡ e
@@ -231,7 +227,7 @@ module _ (p : List Float) where
     no-search l = go (endingByDegree p) refl
       where
         go : (e : Ending) → endingByDegree p ≡ e → e ≡ Settled 0
-        go Broken h = absurd (numbers (ending-broken .0 h))
+        go Broken h = absurd (numbers (ending-broken p .0 h))
         go (Settled k) h = ⊎-elim (λ w. rw (w .1)) (λ w. absurd (omega (arith, w .0))) (ending-settled h)
         go (Spent c) h = absurd (omega (arith, ending-spent h .0))
 
@@ -248,7 +244,7 @@ module _ (p : List Float) where
         same {i} false false e f r = omega (arith, ltb-false i k e, ltb-false k i f)
 
         go : (e : Ending) → endingByDegree p ≡ e → e ≡ Settled k
-        go Broken h = absurd (numbers (ending-broken .0 h))
+        go Broken h = absurd (numbers (ending-broken p .0 h))
         go (Settled i) h = ⊎-elim (λ w. absurd (omega (arith, w .0))) (λ w. rw (same (ltb i k) (ltb k i) refl refl (w .1))) (ending-settled h)
         go (Spent c) h = absurd (true≢false (sym (s .stopped) ∙ ending-spent h .1 .going (k - 1) (omega (arith, s .least, s .most))))
 
@@ -256,7 +252,7 @@ module _ (p : List Float) where
     search-spent {c} l s = go (endingByDegree p) refl
       where
         go : (e : Ending) → endingByDegree p ≡ e → e ≡ Spent c
-        go Broken h = absurd (numbers (ending-broken .0 h))
+        go Broken h = absurd (numbers (ending-broken p .0 h))
         go (Settled i) h =
             ⊎-elim (λ w. absurd (omega (arith, w .0))) (λ w. absurd (true≢false (sym (w .1 .stopped) ∙ s .going (i - 1) (omega (arith, w .1 .least, w .1 .most))))) (ending-settled h)
         go (Spent d) h = rw (ending-spent h .1 .last ∙ sym (s .last))
