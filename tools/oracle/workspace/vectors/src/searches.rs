@@ -396,7 +396,7 @@ fn far_jumps() -> Vec<Vec<f64>> {
     ]
 }
 
-/// Found by a search of our own: polynomials whose first NaN comes late, in the rounds 13 to 41, or
+/// Found by a search of our own: polynomials whose first NaN comes late, in the rounds 13 to 42, or
 /// as a part of the third pole, with two poles before it that stay.
 fn late_nans() -> Vec<Vec<f64>> {
     let p = power_of_two;
@@ -421,6 +421,18 @@ fn late_nans() -> Vec<Vec<f64>> {
             p(176),
             -9.196439388592901e24,
             2257401.970407399,
+        ],
+        vec![1.0, -p(86), p(176), -p(177), -p(176), p(177), p(86)],
+        vec![
+            1.0,
+            0.0,
+            p(127),
+            -p(127),
+            -p(127),
+            1.0,
+            p(127),
+            -5.0 * p(58),
+            0.0,
         ],
         vec![1.0, -p(38), -3.0 * p(114), 3.0 * p(114), 0.0, 0.0],
         vec![1.0, 0.0, -2.0, p(96), 0.0, -p(95), 0.0],
