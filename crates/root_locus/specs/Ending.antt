@@ -25,7 +25,7 @@ endOf used last = cond (lt last tolerance) (Settled used) (Spent last)
 
 -- ---- an ending as a number and a value
 
--- document 02 has no numbers for them
+-- 0 settled, 1 spent, 2 broken: document 02 has no numbers for them
 abbrev pub endingNumber : Ending → ℕ
 endingNumber (Settled n) = 0
 endingNumber (Spent x) = 1
