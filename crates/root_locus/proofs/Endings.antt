@@ -6,7 +6,7 @@ use mathlib.Core.Bool.{Bool, true, false, _||_, cond, true≢false}
 use mathlib.Core.Logic.{_⊎_, inl, inr, ⊎-elim}
 use mathlib.Core.List.{List, [], _∷_}
 use native.Mathlib.Omega.{arith}
-use borrow.Author.Tests.{ltb-true, ltb-false, le-ltb}
+use borrow.Author.Tests.{ltb-true, ltb-false}
 use lib.IntN.{pos}
 use lib.Dec.{ltb}
 use lib.ListN.{length, getD}
@@ -84,13 +84,18 @@ pub record Ran (norm : List Float) (n : ℕ) (s r : Run) : Type 0 where
   pub going : (j : ℕ) → j < m → lt (changeAfter norm j (s .roots)) tolerance ≡ false
   pub ended : (lt (r .last) tolerance ≡ true) ⊎ (m ≡ n)
 
+-- one round alone
+at-once : (norm : List Float) (n : ℕ) (s : Run) → (lt (further norm s .last) tolerance ≡ true) ⊎ (0 ≡ n) → Ran norm n s (further norm s)
+unfolding further after changeAfter
+at-once norm n s e = record { m = 0; few = omega arith; roots-are = refl; used-are = refl; last-is = refl; going = λ j l. absurd (omega arith); ended = e }
+
 pub ran : (norm : List Float) (n : ℕ) (s : Run) → Ran norm n s (run norm (suc n) s)
 unfolding run further after changeAfter
-ran norm zero s = go (lt (oneRound norm (s .roots) .largest) tolerance)
+ran norm zero s = go (lt (further norm s .last) tolerance)
   where
     go : (b : Bool) → Ran norm zero s (cond b (further norm s) (further norm s))
-    go true = record { m = 0; few = omega arith; roots-are = refl; used-are = refl; last-is = refl; going = λ j l. absurd (omega arith); ended = inr refl }
-    go false = record { m = 0; few = omega arith; roots-are = refl; used-are = refl; last-is = refl; going = λ j l. absurd (omega arith); ended = inr refl }
+    go true = at-once norm 0 s (inr refl)
+    go false = at-once norm 0 s (inr refl)
 ran norm (suc n) s = let t = further norm s in go (lt (t .last) tolerance) refl (ran norm n t)
   where
     first : (j : ℕ) → lt (further norm s .last) tolerance ≡ false → ((i : ℕ) → j ≡ suc i → lt (changeAfter norm i (further norm s .roots)) tolerance ≡ false)
@@ -100,7 +105,7 @@ ran norm (suc n) s = let t = further norm s in go (lt (t .last) tolerance) refl 
 
     go : (b : Bool) → lt (further norm s .last) tolerance ≡ b → Ran norm n (further norm s) (run norm (suc n) (further norm s))
         → Ran norm (suc n) s (cond b (further norm s) (run norm (suc n) (further norm s)))
-    go true e next = record { m = 0; few = omega arith; roots-are = refl; used-are = refl; last-is = refl; going = λ j l. absurd (omega arith); ended = inl e }
+    go true e next = at-once norm (suc n) s (inl e)
     go false e next =
         record {
           m = suc (next .m);
