@@ -63,6 +63,12 @@ fn numbers() -> BTreeMap<u32, String> {
     numbers
 }
 
+/// The names for how a search ended, by their numbers.
+fn endings() -> BTreeMap<u32, String> {
+    let names = [(0, "SETTLED"), (1, "SPENT"), (2, "BROKEN")];
+    BTreeMap::from(names.map(|(n, name)| (n, name.to_string())))
+}
+
 /// LengthsDiffer as LENGTHS_DIFFER.
 fn capitals(name: &str) -> String {
     let mut text = String::new();
@@ -81,6 +87,7 @@ fn every_number_has_its_name() {
     macros.retain(|name, _| !name.starts_with("VERSION"));
     let expected = numbers()
         .into_iter()
+        .chain(endings())
         .map(|(number, name)| (name, format!("{number}u")));
     assert_eq!(macros, expected.collect());
 }
@@ -144,7 +151,7 @@ fn every_name_is_used() {
         let mut pieces = program.split(&name).skip(1);
         pieces.any(|behind| !behind.starts_with(|c: char| c.is_alphanumeric() || c == '_'))
     };
-    let names = numbers().into_values();
+    let names = numbers().into_values().chain(endings().into_values());
     let missing: Vec<String> = names.filter(|name| !is_used(name)).collect();
     assert!(missing.is_empty(), "{PROGRAM} does not use {missing:?}");
 }
