@@ -15,18 +15,29 @@ pub extern "C" fn bazintroa_stability_region(poles: &[f64; 16], count: usize) ->
     root_locus::stability_region(places::poles_of(poles), count)
 }
 
-// The number of a point; gain, poles and count go to their places.
-fn put_point(point: LocusPoint, gain: &mut f64, poles: &mut [f64; 16], count: &mut usize) -> u32
-    ensures { λ r. ⌜ PointAnswers (pointOf point) r (now (gain .entry)) (now (gain .exit)) (now (poles .entry)) (now (poles .exit)) (now (count .entry)) (now (count .exit)) ⌝ }
+// The number of a point; gain, poles, count and the ending's kind and value go to their places.
+fn put_point(
+    point: LocusPoint,
+    gain: &mut f64,
+    poles: &mut [f64; 16],
+    count: &mut usize,
+    ending: &mut u32,
+    ending_value: &mut f64,
+) -> u32
+    ensures { λ r. ⌜ PointAnswers (pointOf point) r (now (gain .entry)) (now (gain .exit)) (now (poles .entry)) (now (poles .exit)) (now (count .entry)) (now (count .exit))
+        (now (ending .entry)) (now (ending .exit)) (now («ending_value» .entry)) (now («ending_value» .exit)) ⌝ }
 {
     let check = point.check;
     match check {
         Check::Refused(e) => e.number(),
         Check::Passed => {
             let z = point.poles;
+            let end = point.ending;
             *gain = point.gain;
             places::put_poles(z, poles);
             *count = point.count;
+            *ending = end.number();
+            *ending_value = end.value();
             0
         }
     }
@@ -43,9 +54,12 @@ pub extern "C" fn bazintroa_locus_point(
     gain: &mut f64,
     poles: &mut [f64; 16],
     count: &mut usize,
+    ending: &mut u32,
+    ending_value: &mut f64,
 ) -> u32
     ensures { λ r. ⌜ PointAnswers (locusPointAt (transferFn (now (b .entry)) (now (a .entry)) order) «k_max» n i) r
-        (now (gain .entry)) (now (gain .exit)) (now (poles .entry)) (now (poles .exit)) (now (count .entry)) (now (count .exit)) ⌝ }
+        (now (gain .entry)) (now (gain .exit)) (now (poles .entry)) (now (poles .exit)) (now (count .entry)) (now (count .exit))
+        (now (ending .entry)) (now (ending .exit)) (now («ending_value» .entry)) (now («ending_value» .exit)) ⌝ }
 {
     let open_loop_tf = places::transfer_fn(b, a, order);
     put_point(
@@ -53,5 +67,7 @@ pub extern "C" fn bazintroa_locus_point(
         gain,
         poles,
         count,
+        ending,
+        ending_value,
     )
 }

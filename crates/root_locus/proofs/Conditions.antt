@@ -10,7 +10,6 @@ use lib.Ieee.{Float, le}
 use Rattle.laws.specs.Outcome.{when}
 use Rattle.laws.proofs.Outcome.{when-passed}
 use Rattle.scalar.specs.Scalar.{f0}
-use Rattle.complex.specs.declared.Complex.{Complex}
 use Rattle.sweep.specs.Refusal.{numberOf, refusalOf}
 use Rattle.sweep.specs.declared.FreqError.{FreqError}
 use Rattle.sweep.specs.declared.Check.{Check}
@@ -19,7 +18,6 @@ use Rattle.sweep.proofs.Numbers.{number-above, let-through}
 use Rattle.transfer_fn.specs.declared.TransferFn.{TransferFn}
 use Rattle.root_locus.specs.Gain.{gainAt}
 use Rattle.root_locus.specs.Polynomial.{loopPolynomial, counting, degreeOf}
-use Rattle.root_locus.specs.Roots.{byDegree}
 use Rattle.root_locus.specs.Locus.{locusRefusal, foundPoint, noPoint, leftPoint, pointAt, locusPointAt}
 
 -- a number above 0 that one of the first conditions gave stays what it is, whatever stands behind them
@@ -73,15 +71,15 @@ module _ (order : ℕ) (k-max : Float) (n i : ℕ) where
   let-pass given h = passing (let-through given h)
 
 -- ---- the point by its conditions
-point-refused : {n : ℕ} (gain : Float) (poles : List Complex) → 0 < n → noPoint n ≡ pointAt n gain poles
+point-refused : {n : ℕ} (gain : Float) (p : List Float) → 0 < n → noPoint n ≡ pointAt n gain p
 unfolding pointAt
-point-refused {n} gain poles p = rw (ne-eqb n 0 (λ (e : n ≡ 0). omega arith))
+point-refused {n} gain p l = rw (ne-eqb n 0 (λ (e : n ≡ 0). omega arith))
 
-last-condition : (gain : Float) (p : List Float) → leftPoint gain p ≡ pointAt (when (eqb (degreeOf p) 3) 12 0) gain (byDegree p)
+last-condition : (gain : Float) (p : List Float) → leftPoint gain p ≡ pointAt (when (eqb (degreeOf p) 3) 12 0) gain p
 unfolding leftPoint pointAt
 last-condition gain p = go (eqb (degreeOf p) 3)
   where
-    go : (b : Bool) → cond b (noPoint 12) (foundPoint gain (byDegree p)) ≡ cond (eqb (when b 12 0) 0) (foundPoint gain (byDegree p)) (noPoint (when b 12 0))
+    go : (b : Bool) → cond b (noPoint 12) (foundPoint gain p) ≡ cond (eqb (when b 12 0) 0) (foundPoint gain p) (noPoint (when b 12 0))
     go true = refl
     go false = refl
 

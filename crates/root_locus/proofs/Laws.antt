@@ -17,14 +17,14 @@ use Rattle.sweep.specs.declared.Check.{Check}
 use Rattle.sweep.proofs.Numbers.{check-known}
 use Rattle.transfer_fn.specs.declared.TransferFn.{TransferFn}
 use Rattle.root_locus.specs.declared.LocusPoint.{LocusPoint}
+use Rattle.root_locus.specs.declared.ending.Ending.{Ending}
 use Rattle.root_locus.specs.Gain.{gainAt}
 use Rattle.root_locus.specs.Polynomial.{loopPolynomial, counting, degreeOf}
-use Rattle.root_locus.specs.StartingPoints.{startingPoints}
 use Rattle.root_locus.specs.Search.{nowhere}
 use Rattle.root_locus.specs.Roots.{linear, discriminant, realPair, complexPair, quadratic, quotientAt, monic, searched, byDegree, padded}
 use Rattle.root_locus.specs.Stability.{outside, noneOutside, stable}
 use Rattle.root_locus.specs.Locus.{locusRefusal, Point, pointOf, foundPoint, noPoint, pointAt, locusPointAt}
-use Rattle.root_locus.proofs.Padding.{as-many, rounds-long}
+use Rattle.root_locus.proofs.Padding.{search-long}
 
 -- ---- stable: no counted pole has squared magnitude ≥ 1
 
@@ -84,7 +84,7 @@ pole-count (c ∷ d ∷ e ∷ f ∷ []) h = absurd (h refl)
 pole-count (c ∷ d ∷ e ∷ f ∷ g ∷ p) h = found (c ∷ d ∷ e ∷ f ∷ g ∷ p)
   where
     found : (q : List Float) → length (searched q) ≡ degreeOf q
-    found q = unfold searched in (rounds-long (monic q) [] 200 (startingPoints (degreeOf q)) (as-many q) ∙ unfold monic in length-upTo (quotientAt q) (degreeOf q))
+    found q = search-long q ∙ unfold monic in length-upTo (quotientAt q) (degreeOf q)
 
 -- ---- a locus point
 module _ (tf : TransferFn) (k-max : Float) (n i : ℕ) where
@@ -98,12 +98,12 @@ module _ (tf : TransferFn) (k-max : Float) (n i : ℕ) where
   unfolding locusPointAt pointAt foundPoint noPoint
   point-number = go (eqb refusal 0) refl
     where
-      go : (b : Bool) → eqb refusal 0 ≡ b → cond b (foundPoint (gainAt k-max n i) (byDegree left)) (noPoint refusal) .number ≡ refusal
+      go : (b : Bool) → eqb refusal 0 ≡ b → cond b (foundPoint (gainAt k-max n i) left) (noPoint refusal) .number ≡ refusal
       go true e = sym (eqb-true refusal 0 e)
       go false e = refl
 
-  -- one that is not turned away has the gain and the roots
-  pub point-found : refusal ≡ 0 → locusPointAt tf k-max n i ≡ foundPoint (gainAt k-max n i) (byDegree left)
+  -- one that is not turned away has the gain, the roots and their search's ending
+  pub point-found : refusal ≡ 0 → locusPointAt tf k-max n i ≡ foundPoint (gainAt k-max n i) left
   unfolding locusPointAt pointAt
   point-found h = rw h
 
@@ -128,10 +128,12 @@ point-known p q h =
     let b : p .gain ≡ q .gain = ap (λ (o : Point). o .gain) h in
     let c : p .poles ≡ q .poles = ap (λ (o : Point). o .poles) h in
     let d : p .count ≡ q .count = ap (λ (o : Point). o .count) h in
-    made a b c d
+    let e : p .ending ≡ q .ending = ap (λ (o : Point). o .ending) h in
+    made a b c d e
   where
-    of : Check → Float → List Complex → ℕ → LocusPoint
-    of a b c d = record { check = a; gain = b; poles = c; count = d }
+    of : Check → Float → List Complex → ℕ → Ending → LocusPoint
+    of a b c d e = record { check = a; gain = b; poles = c; count = d; ending = e }
 
-    made : {a a′ : Check} {b b′ : Float} {c c′ : List Complex} {d d′ : ℕ} → a ≡ a′ → b ≡ b′ → c ≡ c′ → d ≡ d′ → of a b c d ≡ of a′ b′ c′ d′
-    made e f g h = rw (e, f, g, h)
+    made : {a a′ : Check} {b b′ : Float} {c c′ : List Complex} {d d′ : ℕ} {e e′ : Ending} → a ≡ a′ → b ≡ b′ → c ≡ c′ → d ≡ d′ → e ≡ e′
+        → of a b c d e ≡ of a′ b′ c′ d′ e′
+    made f g h i j = rw (f, g, h, i, j)

@@ -1,6 +1,7 @@
 pub mod Lists
 pub mod Coefficients
 pub mod Rounds
+pub mod Nans
 pub mod Padding
 pub mod ByDegree
 pub mod Table

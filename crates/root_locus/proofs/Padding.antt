@@ -4,8 +4,8 @@ use mathlib.Core.Path.{_≡_, refl, sym, _∙_}
 use mathlib.Core.Bool.{Bool, true, false, cond}
 use mathlib.Core.List.{List, [], _++_}
 use native.Mathlib.Omega.{arith}
-use lib.ListN.{length, getD, drop, replicate, length-set, List·getD-append}
-use lib.Seq.{set-append-left}
+use lib.ListN.{length, getD, take, drop, replicate, length-set, List·getD-append}
+use lib.Seq.{set-append-left, take-at}
 use lib.Ieee.{Float, lt}
 use Rattle.laws.specs.Loops.{countUp, upTo, filled}
 use Rattle.laws.proofs.Loops.{length-upTo}
@@ -14,8 +14,9 @@ use Rattle.complex.specs.declared.Complex.{Complex}
 use Rattle.complex.specs.Complex.{fromReal, difference, small, ratio}
 use Rattle.root_locus.specs.Polynomial.{degreeOf}
 use Rattle.root_locus.specs.StartingPoints.{startingPoint, startingPoints}
-use Rattle.root_locus.specs.Roots.{quotientAt, monic, searched, padded, asRoots, searchedArray}
-use Rattle.root_locus.specs.Search.{tolerance, nowhere, evalPoly, factor, differences, Round, moved, moveRoot, oneRound, rounds}
+use Rattle.root_locus.specs.Roots.{quotientAt, monic, searched, searchRun, searchEnd, padded, asRoots, searchedArray}
+use Rattle.root_locus.specs.Search.{tolerance, nowhere, evalPoly, factor, differences, Round, moved, moveRoot, oneRound, rounds, Run, begun, further, run}
+use Rattle.root_locus.proofs.Rounds.{run-roots}
 
 -- the array before any root is in it
 abbrev pub eightZeros : List Complex
@@ -84,45 +85,63 @@ module _ (norm : List Float) (tail : List Complex) where
   moves-long zero i s e h = e
   moves-long (suc n) i s e h = moves-long n (suc i) (moveRoot norm i s) (move-long i s e (omega arith)) (omega arith)
 
-  pub rounds-long : (n : ℕ) (zs : List Complex) → length zs ≡ length norm → length (rounds norm n zs) ≡ length norm
-  unfolding rounds oneRound
-  rounds-long zero zs e = e
-  rounds-long (suc n) zs e =
-      let s = countUp (moveRoot norm) (length norm) 0 (record { roots = zs; largest = f0 }) in
-      let e′ = moves-long (length norm) 0 (record { roots = zs; largest = f0 }) e (omega arith) in
-      go (lt (s .largest) tolerance) (s .roots) e′ (rounds-long n (s .roots) e′)
-    where
-      go : (b : Bool) (zs : List Complex) → length zs ≡ length norm → length (rounds norm n zs) ≡ length norm → length (cond b zs (rounds norm n zs)) ≡ length norm
-      go true zs e f = e
-      go false zs e f = f
+  -- a round, and up to n of them
+  round-behind : (zs : List Complex) → length zs ≡ length norm → oneRound norm (zs ++ tail) ≡ behind (oneRound norm zs)
+  unfolding oneRound
+  round-behind zs e = moves-behind (length norm) 0 (record { roots = zs; largest = f0 }) e (omega arith)
 
-  pub rounds-behind : (n : ℕ) (zs : List Complex) → length zs ≡ length norm → rounds norm n (zs ++ tail) ≡ rounds norm n zs ++ tail
-  unfolding rounds oneRound
-  rounds-behind zero zs e = refl
-  rounds-behind (suc n) zs e =
-      let begin : Round = record { roots = zs; largest = f0 } in
-      let s = countUp (moveRoot norm) (length norm) 0 begin in
-      rw (moves-behind (length norm) 0 begin e (omega arith))
-      (go (lt (s .largest) tolerance) (s .roots) (rounds-behind n (s .roots) (moves-long (length norm) 0 begin e (omega arith))))
-    where
-      go : (b : Bool) (zs : List Complex) → rounds norm n (zs ++ tail) ≡ rounds norm n zs ++ tail → cond b (zs ++ tail) (rounds norm n (zs ++ tail)) ≡ cond b zs (rounds norm n zs) ++ tail
-      go true zs e = refl
-      go false zs e = e
+  round-long : (zs : List Complex) → length zs ≡ length norm → length (oneRound norm zs .roots) ≡ length norm
+  unfolding oneRound
+  round-long zs e = moves-long (length norm) 0 (record { roots = zs; largest = f0 }) e (omega arith)
 
-pub rounds-padded : (norm : List Float) (n : ℕ) (zs : List Complex) → length zs ≡ length norm → rounds norm n (padded zs) ≡ padded (rounds norm n zs)
-unfolding padded
-rounds-padded norm n zs e =
-    let k : length (rounds norm n zs) ≡ length zs = rounds-long norm [] n zs e ∙ sym e in
-    rounds-behind norm (replicate (8 - length zs) (fromReal f0)) n zs e ∙ rw k
+  pub run-long : (n : ℕ) (s : Run) → length (s .roots) ≡ length norm → length (run norm n s .roots) ≡ length norm
+  unfolding run further
+  run-long zero s e = e
+  run-long (suc n) s e =
+      let t = further norm s in
+      let e′ = round-long (s .roots) e in
+      go (lt (t .last) tolerance) t e′ (run-long n t e′)
+    where
+      go : (b : Bool) (t : Run) → length (t .roots) ≡ length norm → length (run norm n t .roots) ≡ length norm → length (cond b t (run norm n t) .roots) ≡ length norm
+      go true t e f = e
+      go false t e f = f
+
+  abbrev runBehind : Run → Run
+  runBehind s = record { roots = s .roots ++ tail; used = s .used; last = s .last }
+
+  pub run-behind : (n : ℕ) (s : Run) → length (s .roots) ≡ length norm → run norm n (runBehind s) ≡ runBehind (run norm n s)
+  unfolding run further
+  run-behind zero s e = refl
+  run-behind (suc n) s e =
+      let t = further norm s in
+      rw (round-behind (s .roots) e) (go (lt (t .last) tolerance) t (run-behind n t (round-long (s .roots) e)))
+    where
+      go : (b : Bool) (t : Run) → run norm n (runBehind t) ≡ runBehind (run norm n t) → cond b (runBehind t) (run norm n (runBehind t)) ≡ runBehind (cond b t (run norm n t))
+      go true t e = refl
+      go false t e = e
 
 -- as many starting points as the degree
 pub as-many : (p : List Float) → length (startingPoints (degreeOf p)) ≡ length (monic p)
 unfolding startingPoints monic
 as-many p = length-upTo (startingPoint (degreeOf p)) (degreeOf p) ∙ sym (length-upTo (quotientAt p) (degreeOf p))
 
--- the search on the array gives the roots of the search
-pub array-searched : (p : List Float) → searchedArray (monic p) (padded (startingPoints (degreeOf p))) ≡ asRoots (searched p)
-unfolding searchedArray asRoots searched
-array-searched p =
-    let zs = startingPoints (degreeOf p) in
-    rw (rounds-padded (monic p) 200 zs (as-many p), rounds-long (monic p) [] 200 zs (as-many p))
+-- the search by its run
+module _ (p : List Float) where
+  abbrev start : Run
+  start = begun (startingPoints (degreeOf p))
+
+  -- the roots of the run are the search's
+  pub search-roots : searchRun p .roots ≡ searched p
+  unfolding searchRun searched
+  search-roots = run-roots (monic p) 200 start
+
+  pub search-long : length (searched p) ≡ length (monic p)
+  unfolding searchRun
+  search-long = rw (← search-roots) (run-long (monic p) [] 200 start (as-many p))
+
+  -- the search on the array gives the roots of the search, and its end
+  pub array-searched : searchedArray (monic p) (padded (startingPoints (degreeOf p))) ≡ asRoots (searched p) (searchEnd p)
+  unfolding searchedArray asRoots searchEnd padded searchRun
+  array-searched =
+      let tail = replicate (8 - length (startingPoints (degreeOf p))) (fromReal f0) in
+      rw (run-behind (monic p) tail 200 start (as-many p), search-roots, search-long, ← as-many p, take-at (searched p) tail _ (search-long ∙ sym (as-many p)))

@@ -2,8 +2,8 @@
 use Prim.Native.Nat.{ℕ, _+_, _-_}
 use mathlib.Core.Bool.{Bool, false, cond}
 use mathlib.Core.List.{List, [], _∷_, _++_}
-use lib.Dec.{eqb}
-use lib.ListN.{length, getD, replicate}
+use lib.Dec.{eqb, ltb}
+use lib.ListN.{length, getD, take, replicate}
 use lib.Ieee.{Float, nan, binary64, add, sub, mul, div, neg, le, ofBits}
 use Rattle.laws.specs.Loops.{upTo}
 use Rattle.scalar.specs.Scalar.{f0}
@@ -11,9 +11,12 @@ use Rattle.scalar.specs.Sqrt.{sqrtOf}
 use Rattle.complex.specs.declared.Complex.{Complex}
 use Rattle.complex.specs.Complex.{newOf, fromReal}
 use Rattle.root_locus.specs.declared.Roots.{Roots}
+use Rattle.root_locus.specs.declared.ending.Ending.{Ending}
+use Rattle.root_locus.specs.declared.ending.Ending.the-variants.{Settled}
 use Rattle.root_locus.specs.Polynomial.{degreeOf}
 use Rattle.root_locus.specs.StartingPoints.{startingPoints}
-use Rattle.root_locus.specs.Search.{rounds}
+use Rattle.root_locus.specs.Search.{rounds, Run, begun, run}
+use Rattle.root_locus.specs.Ending.{unlessNan, endOf}
 
 -- 2 and 4
 abbrev pub f2 : Float
@@ -66,24 +69,40 @@ byDegree (c0 ∷ c1 ∷ c2 ∷ []) = quadratic c0 c1 c2
 byDegree (c0 ∷ c1 ∷ c2 ∷ c3 ∷ []) = []
 byDegree (c0 ∷ c1 ∷ c2 ∷ c3 ∷ c4 ∷ cs) = searched (c0 ∷ c1 ∷ c2 ∷ c3 ∷ c4 ∷ cs)
 
+-- ---- how they were found
+
+-- what the rounds of that search leave, the roots among it
+unfoldable pub searchRun : List Float → Run
+searchRun p = run (monic p) 200 (begun (startingPoints (degreeOf p)))
+
+-- the end of those rounds
+unfoldable pub searchEnd : List Float → Ending
+searchEnd p = endOf (searchRun p .used) (searchRun p .last)
+
+-- How the search for the roots of `byDegree` ended: broken comes first; settled with 0 rounds by the formulas or where there is no root; else as its rounds did.
+unfoldable pub endingByDegree : List Float → Ending
+endingByDegree p = unlessNan (byDegree p) (cond (ltb (degreeOf p) 4) (Settled 0) (searchEnd p))
+
 -- ---- roots in the program
 
 -- an array of eight with these roots first and (0, 0) in the places past them
 unfoldable pub padded : List Complex → List Complex
 padded zs = zs ++ replicate (8 - length zs) (fromReal f0)
 
--- what the functions below the locus point return: these roots, in such an array
-unfoldable pub asRoots : List Complex → Roots
-asRoots zs = record { z = padded zs; count = length zs; cubic = false }
+-- what the functions below the locus point return: these roots, in such an array, and the ending e unless a part is NaN
+unfoldable pub asRoots : List Complex → Ending → Roots
+asRoots zs e = record { z = padded zs; count = length zs; cubic = false; ending = unlessNan zs e }
 
 -- no roots, with the mark of a cubic or without it
 unfoldable pub noRoots : Bool → Roots
-noRoots cubic = record { z = padded []; count = 0; cubic = cubic }
+noRoots cubic = record { z = padded []; count = 0; cubic = cubic; ending = Settled 0 }
 
 -- what the search makes of an array that holds the starting points
 unfoldable pub searchedArray : List Float → List Complex → Roots
-searchedArray norm z = record { z = rounds norm 200 z; count = length norm; cubic = false }
+searchedArray norm z =
+    let s = run norm 200 (begun z) in
+    record { z = s .roots; count = length norm; cubic = false; ending = unlessNan (take (length norm) (s .roots)) (endOf (s .used) (s .last)) }
 
--- the roots of a polynomial whose first coefficient counts, and whether it is a cubic
+-- the roots of a polynomial whose first coefficient counts, whether it is a cubic, and how the search ended
 unfoldable pub degreeCases : List Float → Roots
-degreeCases p = record { z = padded (byDegree p); count = length (byDegree p); cubic = eqb (degreeOf p) 3 }
+degreeCases p = record { z = padded (byDegree p); count = length (byDegree p); cubic = eqb (degreeOf p) 3; ending = endingByDegree p }

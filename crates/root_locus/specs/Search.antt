@@ -1,6 +1,6 @@
 -- The root search of `companion_matrix_roots`, after Durand and Kerner. A monic polynomial is the list `norm` of its coefficients after the leading 1, so that
 -- the list's length is the degree. Definitions only.
-use Prim.Native.Nat.{ℕ, zero, suc}
+use Prim.Native.Nat.{ℕ, zero, suc, _+_}
 use mathlib.Core.Bool.{cond}
 use mathlib.Core.List.{List}
 use lib.Dec.{eqb}
@@ -65,3 +65,39 @@ rounds norm zero z = z
 rounds norm (suc n) z =
     let s = oneRound norm z in
     cond (lt (s .largest) tolerance) (s .roots) (rounds norm n (s .roots))
+
+-- ---- what the rounds leave beside the roots
+
+-- the roots as the rounds that ran have left them, how many ran, and the largest change of the last one
+pub record Run : Type 0 where
+  pub roots : List Complex
+  pub used : ℕ
+  pub last : Float
+
+-- before the first round, where there is no change yet
+abbrev pub begun : List Complex → Run
+begun z = record { roots = z; used = 0; last = f0 }
+
+-- one round more
+unfoldable pub further : List Float → Run → Run
+further norm s =
+    let t = oneRound norm (s .roots) in
+    record { roots = t .roots; used = s .used + 1; last = t .largest }
+
+-- up to n rounds more, ended as in `rounds`
+unfoldable pub run : List Float → ℕ → Run → Run
+run norm zero s = s
+run norm (suc n) s =
+    let t = further norm s in
+    cond (lt (t .last) tolerance) t (run norm n t)
+
+-- ---- rounds that are not ended, to say what a run is
+
+-- the roots after k rounds
+unfoldable pub after : List Float → ℕ → List Complex → List Complex
+after norm zero z = z
+after norm (suc k) z = after norm k (oneRound norm z .roots)
+
+-- the largest change of the round that follows these k
+unfoldable pub changeAfter : List Float → ℕ → List Complex → Float
+changeAfter norm k z = oneRound norm (after norm k z) .largest

@@ -1,6 +1,9 @@
 // Poles of a closed loop under a gain: the loop polynomial, its roots, whether they are stable, the points of the
 // root locus and the grid of their gains.
+mod ending;
+
 ghost use mathlib.Core.Path.{_≡_};
+ghost use mathlib.Core.List.{[], _∷_};
 ghost use Prim.Native.Nat.{_+_, _≤_, _<_};
 ghost use lib.ListN.{length};
 ghost use Rattle.laws.specs.Loops.{filled};
@@ -10,10 +13,11 @@ ghost use Rattle.root_locus.specs.Gain.{gainAt, gainOutcome, gainGrid};
 ghost use Rattle.root_locus.specs.Polynomial.{coefficient, nineZeros, loopPolynomial, counting};
 ghost use Rattle.root_locus.specs.StartingPoints.{firstPoint, startingPoints};
 ghost use Rattle.root_locus.specs.Search.{evalPoly};
-ghost use Rattle.root_locus.specs.Roots.{linear, quadratic, searched, padded, asRoots, noRoots, searchedArray, degreeCases};
+ghost use Rattle.root_locus.specs.Roots.{linear, quadratic, searched, searchEnd, padded, asRoots, noRoots, searchedArray, degreeCases};
 ghost use Rattle.root_locus.specs.Stability.{stable};
 ghost use Rattle.root_locus.specs.Locus.{locusRefusal, pointOf, noPoint, leftPoint, locusPointAt};
 use complex::Complex;
+pub use ending::Ending;
 use sweep::Check;
 use sweep::FreqError;
 use sweep::Grid;
@@ -59,11 +63,13 @@ const START: [[f64; 2]; 30] = [
     [0.7071067811865474, -0.7071067811865477],
 ];
 
-// Roots with their count; the places past the count hold (0, 0). A cubic is left out.
+// Roots with their count; the places past the count hold (0, 0). A cubic is left out. And how the search for them
+// ended.
 struct Roots {
     z: [Complex; 8],
     count: usize,
     cubic: bool,
+    ending: Ending,
 }
 
 // Where a degree's pairs begin in the table.
@@ -117,6 +123,8 @@ fn durand_kerner(norm: &[f64], start: [Complex; 8]) -> Roots
 {
     let degree = norm.len();
     let mut z = start;
+    let mut used: usize = 0;
+    let mut last_change = 0.0;
     'rounds: for round in 0usize..200 {
         let mut max_change = 0.0;
         'roots: for i in 0..degree {
@@ -138,21 +146,26 @@ fn durand_kerner(norm: &[f64], start: [Complex; 8]) -> Roots
             }
             z[i] = zi.sub(update);
         }
+        used = round + 1;
+        last_change = max_change;
         if max_change < 1e-12 {
             break 'rounds;
         }
     }
+    let end = ending::end_of(used, last_change);
+    let ending = ending::unless_nan(z, degree, end);
     Roots {
         z,
         count: degree,
         cubic: false,
+        ending,
     }
 }
 
 // The roots of degrees 4 to 8: the search on the coefficients over the leading one.
 fn companion_matrix_roots(coeffs: &[f64]) -> Roots
     requires { ⌜ (1 ≤ length (now coeffs)) × (length (now coeffs) ≤ 9) ⌝ }
-    ensures { λ r. ⌜ r ≡ asRoots (searched (now (coeffs .entry))) ⌝ }
+    ensures { λ r. ⌜ r ≡ asRoots (searched (now (coeffs .entry))) (searchEnd (now (coeffs .entry))) ⌝ }
 {
     let degree = coeffs.len() - 1;
     let lead = coeffs[0];
@@ -165,37 +178,53 @@ fn companion_matrix_roots(coeffs: &[f64]) -> Roots
 
 // c0 z + c1 = 0
 fn linear_root(c0: f64, c1: f64) -> Roots
-    ensures { λ r. ⌜ r ≡ asRoots (linear c0 c1) ⌝ }
+    ensures { λ r. ⌜ r ≡ asRoots (linear c0 c1) (Ending.Settled 0) ⌝ }
 {
     let mut z = [Complex::from_real(0.0); 8];
     z[0] = Complex::from_real(-(c1 / c0));
+    let ending = ending::unless_nan(z, 1, Ending::Settled(0));
     Roots {
         z,
         count: 1,
         cubic: false,
+        ending,
+    }
+}
+
+// Two roots that a formula gave.
+fn two_roots(first: Complex, second: Complex) -> Roots
+    ensures { λ r. ⌜ r ≡ asRoots (first ∷ second ∷ []) (Ending.Settled 0) ⌝ }
+{
+    let mut z = [Complex::from_real(0.0); 8];
+    z[0] = first;
+    z[1] = second;
+    let ending = ending::unless_nan(z, 2, Ending::Settled(0));
+    Roots {
+        z,
+        count: 2,
+        cubic: false,
+        ending,
     }
 }
 
 // c0 z^2 + c1 z + c2 = 0
 fn quadratic_roots(c0: f64, c1: f64, c2: f64) -> Roots
-    ensures { λ r. ⌜ r ≡ asRoots (quadratic c0 c1 c2) ⌝ }
+    ensures { λ r. ⌜ r ≡ asRoots (quadratic c0 c1 c2) (Ending.Settled 0) ⌝ }
 {
-    let mut z = [Complex::from_real(0.0); 8];
     let disc = c1 * c1 - 4.0 * c0 * c2;
     let two_c0 = 2.0 * c0;
     if disc >= 0.0 {
         let sq = scalar::sqrt(disc);
-        z[0] = Complex::from_real((-c1 + sq) / two_c0);
-        z[1] = Complex::from_real((-c1 - sq) / two_c0);
+        two_roots(
+            Complex::from_real((-c1 + sq) / two_c0),
+            Complex::from_real((-c1 - sq) / two_c0),
+        )
     } else {
         let sq = scalar::sqrt(-disc);
-        z[0] = Complex::new(-c1 / two_c0, sq / two_c0);
-        z[1] = Complex::new(-c1 / two_c0, -(sq / two_c0));
-    }
-    Roots {
-        z,
-        count: 2,
-        cubic: false,
+        two_roots(
+            Complex::new(-c1 / two_c0, sq / two_c0),
+            Complex::new(-c1 / two_c0, -(sq / two_c0)),
+        )
     }
 }
 
@@ -204,7 +233,12 @@ fn no_roots(cubic: bool) -> Roots
     ensures { λ r. ⌜ r ≡ noRoots cubic ⌝ }
 {
     let z = [Complex::from_real(0.0); 8];
-    Roots { z, count: 0, cubic }
+    Roots {
+        z,
+        count: 0,
+        cubic,
+        ending: Ending::Settled(0),
+    }
 }
 
 // The roots by the degree, where the first coefficient counts.
@@ -276,13 +310,14 @@ pub fn stability_region(poles: [Complex; 8], count: usize) -> bool
     true
 }
 
-// A point of the root locus: the gain and so many poles, with (0, 0) in the places past them. Where the call is
-// turned away the gain is 0 and there are no poles.
+// A point of the root locus: the gain and so many poles, with (0, 0) in the places past them, and how the search for
+// them ended. Where the call is turned away the gain is 0, there are no poles, and no round was used.
 pub struct LocusPoint {
     pub check: Check,
     pub gain: f64,
     pub poles: [Complex; 8],
     pub count: usize,
+    pub ending: Ending,
 }
 
 // The conditions of a locus point but for the last one, on the degree that is left, which a degree of 0 passes.
@@ -330,6 +365,7 @@ fn turned_away(e: FreqError) -> LocusPoint
         gain: 0.0,
         poles,
         count: 0,
+        ending: Ending::Settled(0),
     }
 }
 
@@ -343,11 +379,13 @@ fn left_point(tf: TransferFn, gain: f64) -> LocusPoint
         return turned_away(FreqError::CubicLeftOut);
     }
     let poles = roots.z;
+    let ending = roots.ending;
     LocusPoint {
         check: Check::Passed,
         gain,
         poles,
         count: roots.count,
+        ending,
     }
 }
 

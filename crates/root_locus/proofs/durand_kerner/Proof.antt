@@ -1,36 +1,38 @@
 use Prim.Native.Nat.{_-_}
 use mathlib.Core.Path.{_≡_, refl, _∙_}
 use mathlib.Core.Logic.{⊎-elim}
+use denote.Ref.{now}
 use borrow.Author.Needs.{needs}
 use Rattle.laws.specs.Loops.{countUp}
 use Rattle.laws.proofs.Loops.{up-begin, up-next, up-end}
-use Rattle.root_locus.specs.Search.{factor, differences, moveRoot, oneRound, rounds}
+use Rattle.root_locus.specs.Search.{factor, differences, moveRoot, oneRound, Run, begun, run}
 use Rattle.root_locus.specs.Roots.{searchedArray}
 use Rattle.root_locus.proofs.Rounds.{factor-taken, factor-left, raised, kept, root-skipped, root-moved, round-more, round-last, rounds-done}
 use Rattle.root_locus.proofs.durand_kerner.Statement.{statement}
 use Rattle.root_locus.proofs.durand_kerner.Tie as tie
 
 abbrev Inv-loop : tie.InvT-loop
-Inv-loop norm degree z round max-change i zi p-val denom₀ j₀ denom j = countUp (factor z i) (degree - j) j denom ≡ differences degree z i
+Inv-loop norm degree z used last-change round max-change i zi p-val denom₀ j₀ denom j = countUp (factor z i) (degree - j) j denom ≡ differences degree z i
 
 abbrev μ-loop : tie.MeasureT-loop
-μ-loop norm degree z round max-change i zi p-val denom₀ j₀ denom j = degree - j
+μ-loop norm degree z used last-change round max-change i zi p-val denom₀ j₀ denom j = degree - j
 
 abbrev Inv-roots : tie.InvT-roots
-Inv-roots norm degree z₀ round max-change₀ i₀ z max-change i =
+Inv-roots norm degree z₀ used last-change round max-change₀ i₀ z max-change i =
     countUp (moveRoot norm) (degree - i) i (record { roots = z; largest = max-change }) ≡ oneRound norm z₀
 
 abbrev μ-roots : tie.MeasureT-roots
-μ-roots norm degree z₀ round max-change₀ i₀ z max-change i = degree - i
+μ-roots norm degree z₀ used last-change round max-change₀ i₀ z max-change i = degree - i
 
 abbrev Inv-rounds : tie.InvT-rounds
-Inv-rounds norm degree z₀ round₀ z round = rounds norm (200 - round) z ≡ rounds norm 200 z₀
+Inv-rounds norm degree z₀ used₀ last-change₀ round₀ z used last-change round =
+    (used ≡ round) × (run norm (200 - round) (record { roots = z; used = round; last = last-change }) ≡ run norm 200 (begun z₀))
 
 abbrev μ-rounds : tie.MeasureT-rounds
-μ-rounds norm degree z₀ round₀ z round = 200 - round
+μ-rounds norm degree z₀ used₀ last-change₀ round₀ z used last-change round = 200 - round
 
 rounds-holds : tie.Need-rounds-holds Inv-loop μ-loop Inv-roots μ-roots Inv-rounds μ-rounds
-rounds-holds c = refl
+rounds-holds c = (refl, refl)
 
 roots-holds : tie.Need-roots-holds Inv-loop μ-loop Inv-roots μ-roots Inv-rounds μ-rounds
 unfolding oneRound
@@ -71,18 +73,23 @@ rounds-again : tie.Need-rounds-again Inv-loop μ-loop Inv-roots μ-roots Inv-rou
 rounds-again c =
     let round = c .before .before .before in
     let e = up-end _ _ (c .before .before .roots .inv) (c .before .roots-test .left) in
-    round-more _ 200 _ (round .before .rounds .inv) (round .rounds-test .taken) e (c .if4 .left)
+    (refl, round-more _ 200 _ _ (round .before .rounds .inv .1) (round .rounds-test .taken) e (c .if4 .left))
 
 returns : tie.Need-returns Inv-loop μ-loop Inv-roots μ-roots Inv-rounds μ-rounds
 unfolding searchedArray
-returns c = rw (rounds-done _ 200 _ (c .before .rounds .inv) (c .rounds-test .left))
-
-returns-2 : tie.Need-returns-2 Inv-loop μ-loop Inv-roots μ-roots Inv-rounds μ-rounds
-unfolding searchedArray
-returns-2 c =
-    let round = c .before .before .before in
-    let e = up-end _ _ (c .before .before .roots .inv) (c .before .roots-test .left) in
-    rw (round-last _ 200 _ (round .before .rounds .inv) (round .rounds-test .taken) e (c .if4 .taken))
+returns c =
+    let exit = c .before .before in
+    let left = exit .rounds-test in
+    let inv = exit .before .rounds .inv in
+    let args = exit .before .before .before .args in
+    let ran : _≡_ {A = Run} (record { roots = left .z; used = left .used; last = left .last-change }) (run (now (args .norm)) 200 (begun (args .start))) =
+    ⊎-elim
+    (λ w. rw (w .1, w .2, w .3, inv .0) (rounds-done _ 200 _ (inv .1) (w .0 .left)))
+    (λ w.
+    let e = up-end _ _ (w .1 .inv) (w .2 .left) in
+    rw (w .4, w .5, w .6) (round-last _ 200 _ _ (inv .1) (w .0 .taken) e (w .3 .taken)))
+    (left .came) in
+    rw (c .unless-nan .ensures, c .before .end-of .ensures, ← ran)
 
 pub durand-kerner-spec : {M : Type 1} → statement M
 durand-kerner-spec =
@@ -122,6 +129,8 @@ durand-kerner-spec =
     roots-again-2
     (λ c. search needs)
     (λ c. search needs)
+    (λ c. search needs)
     rounds-again
-    returns
-    returns-2)
+    (λ c κs. search needs)
+    (λ c κs. search needs)
+    returns)

@@ -5,7 +5,7 @@ use Rattle.root_locus.proofs.linear_root.Tie as tie
 
 returns : tie.Need-returns
 unfolding asRoots padded linear
-returns c = rw (c .before .from-real .ensures, c .from-real2 .ensures)
+returns c = rw (c .unless-nan .ensures, c .before .before .from-real .ensures, c .before .from-real2 .ensures)
 
 pub linear-root-spec : {M : Type 1} → statement M
 linear-root-spec =
@@ -14,4 +14,5 @@ linear-root-spec =
     (λ c κs. search needs)
     (λ c κs. search needs)
     (λ c. search needs)
+    (λ c κs. search needs)
     returns)
