@@ -122,6 +122,18 @@ fn every_refusal_of_the_library() {
     assert_eq!(arms.collect::<BTreeMap<u32, String>>(), expected.collect());
 }
 
+/// The library's endings and numbers are the header's.
+#[test]
+fn every_ending_of_the_library() {
+    let source = fs::read_to_string(root().join("crates/root_locus/src/ending.rt")).unwrap();
+    let arms = source.lines().filter_map(|line| {
+        let arm = line.trim().strip_prefix("Ending::")?;
+        let (name, number) = arm.strip_suffix(',')?.split_once(" => ")?;
+        Some((number.parse().ok()?, capitals(name.trim_end_matches("(_)"))))
+    });
+    assert_eq!(arms.collect::<BTreeMap<u32, String>>(), endings());
+}
+
 #[test]
 fn the_version() {
     let macros = macros();
