@@ -444,4 +444,23 @@ fn a_picture() {
         assert!(picture.contains(label), "{label}");
     }
     assert!(picture.len() < 200_000);
+
+    // Eight poles in one place, or nearly so, at every gain: one mark stands for those that fall together.
+    let path = file(
+        "many.txt",
+        "plant.b = 0 0 0 0 0 0 0 1e-9\nplant.a = 0 0 0 0 0 0 0 0\ncontroller.b = 1\n",
+    );
+    let place = place("many.svg");
+    said([
+        "locus",
+        path.to_str().unwrap(),
+        "--k-max=4",
+        "--points=4096",
+        "--svg",
+        place.to_str().unwrap(),
+    ]);
+    let picture = fs::read_to_string(place).unwrap();
+    check_svg(&picture);
+    assert!(picture.contains("not settled, or off, at 4,096 gains<"));
+    assert!(picture.len() < 200_000);
 }
