@@ -175,6 +175,10 @@ fn poles_that_settled_in_a_wrong_place() {
     assert_eq!(json(&json_, "first_gain_not_inside"), "0.0");
     assert!(picture.contains("not settled, or off, at 1 gain<"));
     assert!(!picture.contains("NaN"));
+    // A halo about each of the three places, and one in the legend; the poles of the two other gains, four
+    // each, are points, since no curve goes through what is off.
+    assert_eq!(picture.matches(" r=\"7.50\"").count(), 4);
+    assert_eq!(picture.matches(" r=\"2.2\"").count(), 8);
 }
 
 #[test]
@@ -310,6 +314,7 @@ fn poles_that_are_not_numbers() {
     }
     assert!(picture.contains("not settled, or off, at 3 gains<"));
     assert!(picture.contains("a pole is NaN, and not drawn, at 2 gains<"));
+    assert_eq!(picture.matches(" r=\"7.50\"").count(), 4);
 
     // Some poles are numbers, and nothing is known all the same.
     let (text, json_, picture) = in_three_forms(

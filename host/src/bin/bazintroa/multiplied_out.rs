@@ -229,6 +229,8 @@ mod tests {
         // Where the scale overflows there is nothing to compare.
         let far = [1.7e308, -1.7e308].map(Complex::from_real);
         assert!(miss(&[1.0, 0.0, 0.0], &far).is_nan());
+        let far = Complex::new(1.3e308, 1.3e308);
+        assert!(miss(&[1.0, -1.3e308], &[far]).is_nan());
         // By a formula: -(-inf / 1).
         let (miss, far, ending) = searched(&[f64::NEG_INFINITY], 0.0);
         assert_eq!((far, ending), (f64::INFINITY, Ending::Settled(0)));
