@@ -59,7 +59,8 @@ def without_contracts(text):
 def as_rust(text, crates):
     text = without_contracts(text).replace("#[no_mangle]\n", "")
     text = re.sub(r"^((?:#\[repr\(C\)\]\n)?(?:pub )?(?:struct|enum) )", r"#[derive(Clone, Copy)]\n\1", text, flags=re.M)
-    text = re.sub(r"std::num::wrapping_add_u64\(", "u64::wrapping_add(", text)
+    text = text.replace("std::num::wrapping_add_u64(", "u64::wrapping_add(")
+    text = text.replace("std::num::nearest_u64_to_f64(", "(|n: u64| n as f64)(")
     return re.sub(rf"(?<![\w:.])({'|'.join(crates)})::", r"crate::\1::", text)
 
 

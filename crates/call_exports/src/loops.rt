@@ -63,13 +63,15 @@ fn stability() {
 }
 
 // Order 2, b (0, 1), a (-4, 5), point 4 of 9 up to gain 4: at gain 2 the polynomial 1, -2, 5 has the poles 1+2j, 1-2j.
-// Point 9 of 9: 17, and every place stays.
+// A formula has them: settled, 0 rounds. Point 9 of 9: 17, and every place stays.
 fn point() {
     let b = two(0.0, 1.0);
     let a = two(-4.0, 5.0);
     let mut gain = lines::MARK;
     let mut parts = [lines::MARK; 16];
     let mut count: usize = 9;
+    let mut ending: u32 = 9;
+    let mut rounds = lines::MARK;
     let number = locus::bazintroa_locus_point(
         &b,
         &a,
@@ -80,6 +82,8 @@ fn point() {
         &mut gain,
         &mut parts,
         &mut count,
+        &mut ending,
+        &mut rounds,
     );
     let mut expected = [0.0; 16];
     expected[0] = 1.0;
@@ -89,6 +93,9 @@ fn point() {
     lines::poles(b"locus_point", number, 0, parts, expected);
     lines::real(b"locus_point, its gain", 0, 0, gain, 2.0);
     lines::verdict(b"locus_point, its count", count == 2);
+    lines::real(b"locus_point, its ending", ending, 0, rounds, 0.0);
+    ending = 9;
+    rounds = lines::MARK;
     let number = locus::bazintroa_locus_point(
         &b,
         &a,
@@ -99,12 +106,56 @@ fn point() {
         &mut gain,
         &mut parts,
         &mut count,
+        &mut ending,
+        &mut rounds,
     );
     lines::poles(b"locus_point, refused", number, 17, parts, expected);
     lines::verdict(
         b"locus_point, refused, its gain and count",
         (gain == 2.0) & (count == 2),
     );
+    lines::real(
+        b"locus_point, refused, its ending",
+        ending,
+        9,
+        rounds,
+        lines::MARK,
+    );
+}
+
+// A line on the ending at gain 0, where the polynomial is 1 and these coefficients.
+fn ending(name: &[u8], a: [f64; 8], order: usize, kind: u32, expected: f64) {
+    let b = two(0.0, 0.0);
+    let mut gain = lines::MARK;
+    let mut parts = [lines::MARK; 16];
+    let mut count: usize = 9;
+    let mut ending: u32 = 9;
+    let mut value = lines::MARK;
+    let number = locus::bazintroa_locus_point(
+        &b,
+        &a,
+        order,
+        1.0,
+        2,
+        0,
+        &mut gain,
+        &mut parts,
+        &mut count,
+        &mut ending,
+        &mut value,
+    );
+    lines::verdict(name, (number == 0) & (ending == kind) & (value == expected));
+}
+
+// The search for the poles of z^4 - 1 starts at them, but for roundings: settled in round 1. Of z + NaN and of
+// z^4 + NaN a part is NaN, though the first round has no change: broken.
+fn endings() {
+    let fourth = [0.0, 0.0, 0.0, -1.0, 9.0, 9.0, 9.0, 9.0];
+    let nan = 0.0 / 0.0;
+    ending(b"locus_point, settled", fourth, 4, 0, 1.0);
+    ending(b"locus_point, broken", two(nan, 9.0), 1, 2, 0.0);
+    let fourth = [0.0, 0.0, 0.0, nan, 9.0, 9.0, 9.0, 9.0];
+    ending(b"locus_point, broken in its search", fourth, 4, 2, 0.0);
 }
 
 pub(crate) fn run() {
@@ -112,4 +163,5 @@ pub(crate) fn run() {
     four_responses();
     stability();
     point();
+    endings();
 }

@@ -9,7 +9,7 @@ use Rattle.sweep.specs.Answer.{notKept}
 use Rattle.sweep.specs.Runs.{start, feed, join}
 use Rattle.transfer_fn.specs.declared.TransferFn.{TransferFn}
 use Rattle.sensitivity.specs.declared.LoopShaping.{LoopShaping}
-use Rattle.worked_cases.specs.Cases.{Bode, Sensitivity, Curve, sqrt, multiply, divide, reciprocal, magnitude, evalTfComplex, loopGainAt, sensitivityAt, compSensitivityAt, controlSensitivityAt, startAt, locusPoint, stabilityRegion, gainCrossover, phaseCrossover, gainMargin, phaseMargin, sensitivityCrossover, bandwidth, distanceToCritical, gainGrid, frequencyGrid, gainOfSummary, phaseOfSummary, crossoverOfSummary, bandwidthOfSummary, approachOfSummary, Row, _gives_}
+use Rattle.worked_cases.specs.Cases.{Bode, Sensitivity, Curve, sqrt, multiply, divide, reciprocal, magnitude, evalTfComplex, loopGainAt, sensitivityAt, compSensitivityAt, controlSensitivityAt, startAt, locusPoint, locusEnding, stabilityRegion, gainCrossover, phaseCrossover, gainMargin, phaseMargin, sensitivityCrossover, bandwidth, distanceToCritical, gainGrid, frequencyGrid, gainOfSummary, phaseOfSummary, crossoverOfSummary, bandwidthOfSummary, approachOfSummary, Row, _gives_}
 
 abbrev bits : ℕ → Float
 bits n = ofBits binary64 n
@@ -481,6 +481,95 @@ regions =
     (stabilityRegion ((bits 0x7fff_ffff_ffff_ffff, bits 0x4000_0000_0000_0000) ∷ (bits 0x3e50_0000_0000_0000, bits 0xfff0_0000_0000_0001) ∷ (bits 0xc412_0476_c71d_a56e, bits 0xb33a_db8a_dfba_aada) ∷ (bits 0x5ff0_0000_0000_0000, bits 0xfff8_0000_0000_0000) ∷ (bits 0x0000_0000_0000_0001, bits 0x7ff0_0000_0000_0001) ∷ (bits 0x0000_0000_0000_0000, bits 0xfff0_0000_0000_0001) ∷ (bits 0xd476_267e_694a_1d90, bits 0xb050_dd42_8429_8f79) ∷ (bits 0x3cb0_0000_0000_0000, bits 0x1a37_04f1_03db_ac93) ∷ []) 1 gives found (floats (0x3ff0_0000_0000_0000 ∷ []))) ∷
     (stabilityRegion ((bits 0x3fe3_3d18_3df6_5946, bits 0x3fb7_6265_fe56_84b8) ∷ (bits 0xbfac_398f_1a99_4a10, bits 0x3fdc_4074_108a_fe40) ∷ (bits 0xbf86_1a2f_22e3_7400, bits 0xbf97_69ba_50d7_ba00) ∷ (bits 0xbfc0_f889_36f3_7690, bits 0x3fa9_d154_f70d_68c0) ∷ (bits 0xbfdb_19f0_7c3c_6d54, bits 0x3fe1_2188_1797_71d8) ∷ (bits 0xbfcf_47a0_2885_877a, bits 0xbf74_e3f6_969c_4700) ∷ (bits 0x3fdc_c320_f1a6_3d68, bits 0xbfc9_26b2_7dc0_e140) ∷ (bits 0x0000_0000_0000_0000, bits 0xbff0_0000_0000_0000) ∷ []) 7 gives found (floats (0x3ff0_0000_0000_0000 ∷ []))) ∷
     (stabilityRegion ((bits 0xbfe1_08c4_d600_0e10, bits 0xbfe4_6d5e_d1bc_bf36) ∷ (bits 0x3fde_6eef_0b3b_724c, bits 0xbfe0_845e_c1f9_e30e) ∷ (bits 0x3fe6_494e_fa11_917a, bits 0xbfc1_1be7_9529_0d88) ∷ (bits 0xbf8e_240c_a2ad_5f40, bits 0xbfdf_708e_01b7_764a) ∷ (bits 0xbfd6_a86d_893a_46d0, bits 0x3fe2_02d5_a65e_324e) ∷ (bits 0x3fe1_cd31_5af7_19a6, bits 0x3fdf_ef02_6cb6_5e84) ∷ (bits 0x3f90_5688_21a8_42c0, bits 0xbfd4_e57b_c791_a2ad) ∷ (bits 0x0000_0000_0000_0000, bits 0xbff0_0000_0000_0000) ∷ []) 9 gives found (floats (0x0000_0000_0000_0000 ∷ []))) ∷
+    []
+
+-- ---- how the search ended: direct formulas, with NaNs and infinite poles; no poles; refusals
+
+abbrev function22 : TransferFn
+function22 = record { b = floats (0x0000_0000_0000_0000 ∷ 0x5ff0_0000_0000_0000 ∷ 0x7ff8_0000_0000_0000 ∷ 0x7ff4_0000_dead_beef ∷ 0xbff8_0000_0000_0000 ∷ 0xfff0_0000_0000_0000 ∷ 0xffff_ffff_ffff_ffff ∷ 0x7fff_ffff_ffff_ffff ∷ []); a = floats (0xbfe0_0000_0000_0000 ∷ 0xd869_6198_a9e3_93e4 ∷ 0x0010_0000_0000_0000 ∷ 0x3e50_0000_0000_0000 ∷ 0x800f_ffff_ffff_ffff ∷ 0x7ff4_0000_dead_beef ∷ 0x7ff0_0000_0000_0001 ∷ 0x7ff8_0000_0000_0000 ∷ []); order = 1 }
+
+abbrev function23 : TransferFn
+function23 = record { b = floats (0x0000_0000_0000_0000 ∷ 0x0000_0000_0000_0001 ∷ 0xf920_001d_200f_89c0 ∷ 0xffff_ffff_ffff_ffff ∷ 0x67dd_2253_fbfa_84de ∷ 0x7ff0_0000_0000_0001 ∷ 0x7ff0_0000_0000_0001 ∷ 0xffff_ffff_ffff_ffff ∷ []); a = floats (0x7ff8_0000_0000_0000 ∷ 0x7ff8_0000_0000_0000 ∷ 0xbff8_0000_0000_0000 ∷ 0xbff8_0000_0000_0000 ∷ 0x3ff0_0000_0000_0000 ∷ 0x7ff8_0000_0000_0000 ∷ 0x7ff4_0000_dead_beef ∷ 0x7ff8_0000_0000_0000 ∷ []); order = 1 }
+
+abbrev function24 : TransferFn
+function24 = record { b = floats (0xbff0_0000_0000_0000 ∷ 0x7ff0_0000_0000_0001 ∷ 0x4245_9cbe_88c8_ab59 ∷ 0xffff_ffff_ffff_ffff ∷ 0x7754_2adb_a413_a243 ∷ 0x7ff0_0000_0000_0001 ∷ 0xfff8_0000_0000_0000 ∷ 0xc0d4_a18a_0441_9311 ∷ []); a = floats (0x7ff8_0000_0000_0000 ∷ 0xba18_a995_69af_b5c4 ∷ 0xcc92_bcb5_2066_7718 ∷ 0xfff8_0000_0000_0000 ∷ 0x0000_0000_0000_0000 ∷ 0xc758_2569_e3d4_3344 ∷ 0x8000_0000_0000_0000 ∷ 0x7fff_ffff_ffff_ffff ∷ []); order = 1 }
+
+abbrev function25 : TransferFn
+function25 = record { b = floats (0x0000_0000_0000_0000 ∷ 0x3e50_0000_0000_0000 ∷ 0x7ff0_0000_0000_0000 ∷ 0x9a6b_7a50_90e1_62d6 ∷ 0xf267_310a_79b4_e016 ∷ 0xffef_ffff_ffff_ffff ∷ 0xfff8_0000_0000_0000 ∷ 0x7ff0_0000_0000_0000 ∷ []); a = floats (0xfff0_0000_0000_0000 ∷ 0xffef_ffff_ffff_ffff ∷ 0xe18a_7643_2e34_61a1 ∷ 0xbd78_eb55_706f_54d5 ∷ 0xc15e_3a04_ddd5_2730 ∷ 0x3cb0_0000_0000_0000 ∷ 0xffff_ffff_ffff_ffff ∷ 0x7ff0_0000_0000_0001 ∷ []); order = 1 }
+
+abbrev function26 : TransferFn
+function26 = record { b = floats (0x3ff0_0000_0000_0000 ∷ 0x8000_0000_0000_0000 ∷ 0x20ab_04fd_889d_9d22 ∷ 0x7ff4_0000_dead_beef ∷ 0xecf6_0bef_eb46_23c5 ∷ 0x4b2c_8473_12cd_8e7f ∷ 0x31e0_acce_5f25_8d11 ∷ 0x1d72_b6a5_5194_ac4a ∷ []); a = floats (0xbff8_0000_0000_0000 ∷ 0x3fd0_0000_0000_0000 ∷ 0x2ff8_e857_9eef_1c3b ∷ 0xffff_ffff_ffff_ffff ∷ 0xbe39_e8f0_4ed5_20b0 ∷ 0xced0_c66d_4fa7_f3c1 ∷ 0x800f_ffff_ffff_ffff ∷ 0xfff8_0000_0000_0000 ∷ []); order = 2 }
+
+abbrev function27 : TransferFn
+function27 = record { b = floats (0xbfe0_0000_0000_0000 ∷ 0x8000_0000_0000_0000 ∷ 0xffef_ffff_ffff_ffff ∷ 0x7ff0_0000_0000_0001 ∷ 0xbe50_0000_0000_0000 ∷ 0xfff0_0000_0000_0001 ∷ 0x0000_0000_0000_0001 ∷ 0x0010_0000_0000_0000 ∷ []); a = floats (0x3ff0_0000_0000_0000 ∷ 0x7ff8_0000_0000_0000 ∷ 0xfc92_a301_cd42_1f29 ∷ 0x0485_c28b_fde8_8f9c ∷ 0xfff0_0000_0000_0001 ∷ 0x3b63_6d14_8b65_8e33 ∷ 0x7fff_ffff_ffff_ffff ∷ 0x7ff0_0000_0000_0001 ∷ []); order = 2 }
+
+abbrev function28 : TransferFn
+function28 = record { b = floats (0x0000_0000_0000_0000 ∷ 0x8000_0000_0000_0000 ∷ 0x5ff0_0000_0000_0000 ∷ 0x0010_0000_0000_0000 ∷ 0xbff8_0000_0000_0000 ∷ 0x361d_f910_15cc_cdc9 ∷ 0xfff8_0000_0000_0000 ∷ 0xf4e6_38e5_0f5e_7488 ∷ []); a = floats (0x7ff0_0000_0000_0000 ∷ 0x3ff0_0000_0000_0000 ∷ 0xfff8_0000_0000_0000 ∷ 0xd07d_b0cc_a453_bca4 ∷ 0x7ff0_0000_0000_0001 ∷ 0x7fff_ffff_ffff_ffff ∷ 0x7ff8_0000_0000_0000 ∷ 0x7fff_ffff_ffff_ffff ∷ []); order = 2 }
+
+abbrev function29 : TransferFn
+function29 = record { b = floats (0x0000_0000_0000_0000 ∷ 0x8000_0000_0000_0000 ∷ 0xafea_f62f_f166_48b5 ∷ 0x7fff_ffff_ffff_ffff ∷ 0x3cb0_0000_0000_0000 ∷ 0xfff0_0000_0000_0001 ∷ 0xfa40_6c05_5e48_23ec ∷ 0xffff_ffff_ffff_ffff ∷ []); a = floats (0xfff0_0000_0000_0000 ∷ 0x3ff0_0000_0000_0000 ∷ 0x5fbd_9f85_5a83_7491 ∷ 0xffff_ffff_ffff_ffff ∷ 0x8000_0000_0000_0000 ∷ 0x0000_0000_0000_0000 ∷ 0x1479_e3b9_82af_cb1a ∷ 0xc4e5_ee7f_ed35_df61 ∷ []); order = 2 }
+
+abbrev function30 : TransferFn
+function30 = record { b = floats (0x0000_0000_0000_0000 ∷ 0x8000_0000_0000_0000 ∷ 0xffff_ffff_ffff_ffff ∷ 0x017d_d512_413a_76d5 ∷ 0xffff_ffff_ffff_ffff ∷ 0xdd84_6504_6bd2_9b13 ∷ 0xfff0_0000_0000_0001 ∷ 0xc4c2_bc45_4e03_769d ∷ []); a = floats (0x3ff0_0000_0000_0000 ∷ 0x7ff0_0000_0000_0000 ∷ 0xffff_ffff_ffff_ffff ∷ 0x4685_60b3_313d_8b60 ∷ 0xa9fa_f64b_7210_94a2 ∷ 0xfff8_0000_0000_0000 ∷ 0x7fff_ffff_ffff_ffff ∷ 0xd576_8830_c814_f294 ∷ []); order = 2 }
+
+abbrev function31 : TransferFn
+function31 = record { b = floats (0x0000_0000_0000_0000 ∷ 0x8000_0000_0000_0000 ∷ 0x8000_0000_0000_0000 ∷ 0x3e50_0000_0000_0000 ∷ 0x7ff0_0000_0000_0000 ∷ 0xfff8_0000_0000_0000 ∷ 0xfff0_0000_0000_0000 ∷ 0x9cff_e5da_c716_f2e0 ∷ []); a = floats (0xbfe0_0000_0000_0000 ∷ 0x3fd0_0000_0000_0000 ∷ 0x4000_0000_0000_0000 ∷ 0x7fff_ffff_ffff_ffff ∷ 0xfff0_0000_0000_0001 ∷ 0xbe50_0000_0000_0000 ∷ 0xa5d6_a239_aea5_0eed ∷ 0xfff8_0000_0000_0000 ∷ []); order = 3 }
+
+abbrev function32 : TransferFn
+function32 = record { b = floats (0x0000_0000_0000_0000 ∷ 0x8000_0000_0000_0000 ∷ 0x3ff0_0000_0000_0000 ∷ 0x9ff5_18b7_1056_1db6 ∷ 0x0010_0000_0000_0000 ∷ 0xfff8_0000_0000_0000 ∷ 0x04ac_690b_ecd9_cbf6 ∷ 0x0686_8bf7_666d_651c ∷ []); a = floats (0x4000_0000_0000_0000 ∷ 0x7ff8_0000_0000_0000 ∷ 0xfff0_0000_0000_0001 ∷ 0x7ff8_0000_0000_0000 ∷ 0xfff8_0000_0000_0000 ∷ 0xffff_ffff_ffff_ffff ∷ 0xfff0_0000_0000_0001 ∷ 0xf65b_2a47_8a65_9263 ∷ []); order = 2 }
+
+unfoldable pub endings : List Row
+unfolding ofBits
+endings =
+    (locusEnding function22 (bits 0x3ff0_0000_0000_0000) 33 32 gives found (floats (0x0000_0000_0000_0000 ∷ 0x0000_0000_0000_0000 ∷ []))) ∷
+    (locusEnding function23 (bits 0x3ff0_0000_0000_0000) 33 32 gives found (floats (0x4000_0000_0000_0000 ∷ 0x0000_0000_0000_0000 ∷ []))) ∷
+    (locusEnding function24 (bits 0x3ff0_0000_0000_0000) 2 1 gives found (floats (0x0000_0000_0000_0000 ∷ 0x0000_0000_0000_0000 ∷ []))) ∷
+    (locusEnding function25 (bits 0x3ff0_0000_0000_0000) 2 1 gives found (floats (0x0000_0000_0000_0000 ∷ 0x0000_0000_0000_0000 ∷ []))) ∷
+    (locusEnding function26 (bits 0x3ff0_0000_0000_0000) 4096 4095 gives found (floats (0x0000_0000_0000_0000 ∷ 0x0000_0000_0000_0000 ∷ []))) ∷
+    (locusEnding function27 (bits 0x3ff0_0000_0000_0000) 33 32 gives found (floats (0x4000_0000_0000_0000 ∷ 0x0000_0000_0000_0000 ∷ []))) ∷
+    (locusEnding function28 (bits 0x3ff0_0000_0000_0000) 4096 4095 gives found (floats (0x4000_0000_0000_0000 ∷ 0x0000_0000_0000_0000 ∷ []))) ∷
+    (locusEnding function29 (bits 0x3ff0_0000_0000_0000) 4096 4095 gives found (floats (0x4000_0000_0000_0000 ∷ 0x0000_0000_0000_0000 ∷ []))) ∷
+    (locusEnding function30 (bits 0x3ff0_0000_0000_0000) 33 32 gives found (floats (0x0000_0000_0000_0000 ∷ 0x0000_0000_0000_0000 ∷ []))) ∷
+    (locusEnding function31 (bits 0x3ff0_0000_0000_0000) 4096 4095 gives refused 12) ∷
+    (locusEnding function32 (bits 0x40af_fe00_0000_0000) 4096 4096 gives refused 17) ∷
+    []
+
+-- ---- how the search ended: settled in round 1; broken in it, with the first pole or with none that is not NaN
+
+abbrev function33 : TransferFn
+function33 = record { b = floats (0x0000_0000_0000_0000 ∷ 0x8000_0000_0000_0000 ∷ 0x8000_0000_0000_0000 ∷ 0x8000_0000_0000_0000 ∷ 0x7ff4_0000_dead_beef ∷ 0x7ff0_0000_0000_0001 ∷ 0xf42b_62f3_2779_26e5 ∷ 0xfff0_0000_0000_0001 ∷ []); a = floats (0x0000_0000_0000_0000 ∷ 0x0000_0000_0000_0000 ∷ 0x0000_0000_0000_0000 ∷ 0xbff0_0000_0000_0000 ∷ 0x66c3_72c2_4fec_82bf ∷ 0xfff8_0000_0000_0000 ∷ 0x0000_0000_0000_0001 ∷ 0x7ff0_0000_0000_0000 ∷ []); order = 4 }
+
+abbrev function34 : TransferFn
+function34 = record { b = floats (0x0000_0000_0000_0000 ∷ 0x8000_0000_0000_0000 ∷ 0x8000_0000_0000_0000 ∷ 0x8000_0000_0000_0000 ∷ 0x8000_0000_0000_0000 ∷ 0xbe50_0000_0000_0000 ∷ 0x7ff8_0000_0000_0000 ∷ 0x4174_6a4e_f993_f726 ∷ []); a = floats (0xbff0_0000_0000_0000 ∷ 0x7fee_42d1_3077_3b76 ∷ 0xffee_42d1_3077_3b76 ∷ 0x0000_0000_0000_0000 ∷ 0x0000_0000_0000_0000 ∷ 0xfff0_0000_0000_0001 ∷ 0x9646_2a32_81a8_a66c ∷ 0x7ff4_0000_dead_beef ∷ []); order = 5 }
+
+abbrev function35 : TransferFn
+function35 = record { b = floats (0x0000_0000_0000_0000 ∷ 0x8000_0000_0000_0000 ∷ 0x8000_0000_0000_0000 ∷ 0x8000_0000_0000_0000 ∷ 0x7fff_ffff_ffff_ffff ∷ 0x3e50_0000_0000_0000 ∷ 0xc4a0_b0dc_2d75_344c ∷ 0x106e_65d3_2ca0_1957 ∷ []); a = floats (0x3fe0_0000_0000_0000 ∷ 0x7ff8_0000_0000_0000 ∷ 0xbfd0_0000_0000_0000 ∷ 0x4000_0000_0000_0000 ∷ 0xbff8_0000_0000_0000 ∷ 0x8000_0000_0000_0000 ∷ 0xf98f_3868_1e7c_677b ∷ 0xfff0_0000_0000_0001 ∷ []); order = 4 }
+
+unfoldable pub endedAtOnce : List Row
+unfolding ofBits
+endedAtOnce =
+    (locusEnding function33 (bits 0x3ff0_0000_0000_0000) 4096 4095 gives found (floats (0x0000_0000_0000_0000 ∷ 0x3ff0_0000_0000_0000 ∷ []))) ∷
+    (locusEnding function34 (bits 0x3ff0_0000_0000_0000) 33 32 gives found (floats (0x4000_0000_0000_0000 ∷ 0x0000_0000_0000_0000 ∷ []))) ∷
+    (locusEnding function35 (bits 0x4000_0000_0000_0000) 3 1 gives found (floats (0x4000_0000_0000_0000 ∷ 0x0000_0000_0000_0000 ∷ []))) ∷
+    []
+
+-- ---- how the search ended: settled in rounds 2 and 5; broken in round 2
+
+abbrev function36 : TransferFn
+function36 = record { b = floats (0x0000_0000_0000_0000 ∷ 0x8000_0000_0000_0000 ∷ 0x8000_0000_0000_0000 ∷ 0x8000_0000_0000_0000 ∷ 0x0f05_ba0f_0070_f0d7 ∷ 0xfff0_0000_0000_0000 ∷ 0x3cb0_0000_0000_0000 ∷ 0xaf97_0258_22b9_750f ∷ []); a = floats (0x0000_0000_0000_0000 ∷ 0x0000_0000_0000_0000 ∷ 0x0000_0000_0000_0000 ∷ 0xbff0_0001_0000_0000 ∷ 0x0000_0000_0000_0000 ∷ 0x7ff0_0000_0000_0001 ∷ 0xc96e_a4d1_a8c2_f736 ∷ 0x3cb0_0000_0000_0000 ∷ []); order = 4 }
+
+abbrev function37 : TransferFn
+function37 = record { b = floats (0x0000_0000_0000_0000 ∷ 0x8000_0000_0000_0000 ∷ 0x8000_0000_0000_0000 ∷ 0x8000_0000_0000_0000 ∷ 0x7fff_ffff_ffff_ffff ∷ 0x0000_0000_0000_0001 ∷ 0x51bd_666d_6953_651b ∷ 0x0010_0000_0000_0000 ∷ []); a = floats (0x0000_0000_0000_0000 ∷ 0x0000_0000_0000_0000 ∷ 0x0000_0000_0000_0000 ∷ 0xc000_0000_0000_0000 ∷ 0x3cb0_0000_0000_0000 ∷ 0xffef_ffff_ffff_ffff ∷ 0xc370_be33_57dc_6a16 ∷ 0xfff8_0000_0000_0000 ∷ []); order = 4 }
+
+abbrev function38 : TransferFn
+function38 = record { b = floats (0x0000_0000_0000_0000 ∷ 0x8000_0000_0000_0000 ∷ 0x8000_0000_0000_0000 ∷ 0x8000_0000_0000_0000 ∷ 0xe76c_e1a3_6494_2b88 ∷ 0x7ff8_0000_0000_0000 ∷ 0xfae6_c061_8122_fe42 ∷ 0x7ff0_0000_0000_0001 ∷ []); a = floats (0xc008_0000_0000_0000 ∷ 0xbff0_0000_0000_0000 ∷ 0xc008_0000_0000_0000 ∷ 0x4a30_0000_0000_0000 ∷ 0xac0a_63b4_6e1b_a218 ∷ 0x016a_3069_c7ec_2949 ∷ 0x8000_0000_0000_0000 ∷ 0xfff8_0000_0000_0000 ∷ []); order = 4 }
+
+unfoldable pub endedSoon : List Row
+unfolding ofBits
+endedSoon =
+    (locusEnding function36 (bits 0x3ff0_0000_0000_0000) 33 32 gives found (floats (0x0000_0000_0000_0000 ∷ 0x4000_0000_0000_0000 ∷ []))) ∷
+    (locusEnding function37 (bits 0x3ff0_0000_0000_0000) 4096 4095 gives found (floats (0x0000_0000_0000_0000 ∷ 0x4014_0000_0000_0000 ∷ []))) ∷
+    (locusEnding function38 (bits 0x3ff0_0000_0000_0000) 4096 4095 gives found (floats (0x4000_0000_0000_0000 ∷ 0x0000_0000_0000_0000 ∷ []))) ∷
     []
 
 -- ---- sweeps of several styles; pairs that enclose a crossover or just do not; differences of eps or next to it; the sign of a crossover of 0; a level that is rounded; refusals
@@ -1171,4 +1260,4 @@ summaries =
 -- ---- all of them
 
 unfoldable pub asked : List Row
-asked = squareRoots ++ complexNumbers ++ responses ++ starts ++ formulas ++ quartic ++ quintic ++ sextic ++ septic ++ octic ++ searches ++ regions ++ scans ++ grids ++ summaries
+asked = squareRoots ++ complexNumbers ++ responses ++ starts ++ formulas ++ quartic ++ quintic ++ sextic ++ septic ++ octic ++ searches ++ regions ++ endings ++ endedAtOnce ++ endedSoon ++ scans ++ grids ++ summaries

@@ -32,10 +32,14 @@ fn next_are(poles: [Complex; 8]) -> bool {
 fn expected(p: LocusPoint) -> bool {
     let check = p.check;
     let poles = p.poles;
+    let ending = p.ending;
     let number = number_of(check) as u64 == vectors::number();
     let gain = next_is(p.gain);
     let count = p.count as u64 == vectors::number();
-    number & gain & count & next_are(poles)
+    let places = next_are(poles);
+    let kind = ending.number() as u64 == vectors::number();
+    let value = next_is(ending.value());
+    number & gain & count & places & kind & value
 }
 
 fn ask_locus(tally: Tally) -> Tally {

@@ -70,6 +70,14 @@ module _ (order : ℕ) (k-max : Float) (n i : ℕ) where
   pub let-pass : {k : Check} → refusalOf k ≡ locusRefusal order k-max n i 0 → k ≡ Passed → Passing
   let-pass given h = passing (let-through given h)
 
+  -- a degree that is not turned away is not 3
+  pub not-cubic : {degree : ℕ} → locusRefusal order k-max n i degree ≡ 0 → degree ≡ 3 → ⊥
+  not-cubic {degree} h e = go (locusRefusal order k-max n i 0) refl
+    where
+      go : (m : ℕ) → locusRefusal order k-max n i 0 ≡ m → ⊥
+      go zero k = let r : locusRefusal order k-max n i 3 ≡ 12 = passing k .rest 3 in absurd (omega (arith, rw e at h))
+      go (suc m) k = absurd (omega (arith, refused-before k (omega arith) degree))
+
 -- ---- the point by its conditions
 point-refused : {n : ℕ} (gain : Float) (p : List Float) → 0 < n → noPoint n ≡ pointAt n gain p
 unfolding pointAt

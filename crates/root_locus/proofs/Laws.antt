@@ -2,12 +2,13 @@
 use Prim.Native.Nat.{ℕ, zero, suc, _+_, _-_, _<_, _≤_, min}
 use mathlib.Core.Path.{_≡_, refl, sym, ap, _∙_}
 use mathlib.Core.Bool.{Bool, true, false, cond, true≢false}
+use mathlib.Core.Logic.{⊎-elim}
 use mathlib.Core.List.{List, [], _∷_}
 use native.Mathlib.Omega.{arith}
-use borrow.Author.Tests.{eqb-true, ne-eqb}
+use borrow.Author.Tests.{eqb-true, eqb-false, ne-eqb}
 use lib.Dec.{eqb}
 use lib.ListN.{length, getD, take, replicate, length-take, getD-replicate}
-use lib.Seq.{getD-take, getD-append-add}
+use lib.Seq.{getD-take, getD-append-add, take-at}
 use lib.Ieee.{Float, le}
 use Rattle.laws.proofs.Loops.{length-upTo}
 use Rattle.scalar.specs.Scalar.{f0, f1}
@@ -18,13 +19,16 @@ use Rattle.sweep.proofs.Numbers.{check-known}
 use Rattle.transfer_fn.specs.declared.TransferFn.{TransferFn}
 use Rattle.root_locus.specs.declared.LocusPoint.{LocusPoint}
 use Rattle.root_locus.specs.declared.ending.Ending.{Ending}
+use Rattle.root_locus.specs.declared.ending.Ending.the-variants.{Settled, Broken}
 use Rattle.root_locus.specs.Gain.{gainAt}
 use Rattle.root_locus.specs.Polynomial.{loopPolynomial, counting, degreeOf}
 use Rattle.root_locus.specs.Search.{nowhere}
-use Rattle.root_locus.specs.Roots.{linear, discriminant, realPair, complexPair, quadratic, quotientAt, monic, searched, byDegree, padded}
+use Rattle.root_locus.specs.Roots.{linear, discriminant, realPair, complexPair, quadratic, quotientAt, monic, searched, byDegree, endingByDegree, padded}
 use Rattle.root_locus.specs.Stability.{outside, noneOutside, stable}
 use Rattle.root_locus.specs.Locus.{locusRefusal, Point, pointOf, foundPoint, noPoint, pointAt, locusPointAt}
 use Rattle.root_locus.proofs.Padding.{search-long}
+use Rattle.root_locus.proofs.Conditions.{not-cubic}
+use Rattle.root_locus.proofs.Endings.{NanIn, ending-broken, SettledIn, ending-settled}
 
 -- ---- stable: no counted pole has squared magnitude ≥ 1
 
@@ -106,6 +110,36 @@ module _ (tf : TransferFn) (k-max : Float) (n i : ℕ) where
   pub point-found : refusal ≡ 0 → locusPointAt tf k-max n i ≡ foundPoint (gainAt k-max n i) left
   unfolding locusPointAt pointAt
   point-found h = rw h
+
+  -- its ending is that of the search for its poles: broken exactly where a part of one that counts is NaN
+  pub point-ending : refusal ≡ 0 → locusPointAt tf k-max n i .ending ≡ endingByDegree left
+  unfolding foundPoint
+  point-ending h = ap (λ (p : Point). p .ending) (point-found h)
+
+  counted-poles : refusal ≡ 0 → take (locusPointAt tf k-max n i .count) (locusPointAt tf k-max n i .poles) ≡ byDegree left
+  unfolding foundPoint padded
+  counted-poles h = rw (point-found h) (take-at (byDegree left) _ _ refl)
+
+  pub point-broken : refusal ≡ 0 → let p = locusPointAt tf k-max n i in
+      (p .ending ≡ Broken → NanIn (take (p .count) (p .poles))) × (NanIn (take (p .count) (p .poles)) → p .ending ≡ Broken)
+  point-broken h = rw (counted-poles h, point-ending h) (ending-broken left)
+
+  -- the rounds of a settled one: at most 200, and 0 exactly for degree 2 and below
+  pub point-settled : {k : ℕ} → refusal ≡ 0 → locusPointAt tf k-max n i .ending ≡ Settled k → (k ≤ 200) × ((k ≡ 0 → degreeOf left ≤ 2) × (degreeOf left ≤ 2 → k ≡ 0))
+  point-settled {k} h e = ⊎-elim formulas rounds (ending-settled left (sym (point-ending h) ∙ e))
+    where
+      formulas : (degreeOf left < 4) × (k ≡ 0) → (k ≤ 200) × ((k ≡ 0 → degreeOf left ≤ 2) × (degreeOf left ≤ 2 → k ≡ 0))
+      formulas w = (omega (arith, w .1), (λ z. few (degreeOf left) (w .0) (not-cubic (tf .order) k-max n i h), λ l. w .1))
+        where
+          few : (d : ℕ) → d < 4 → (d ≡ 3 → ⊥) → d ≤ 2
+          few d l c = go (eqb d 3) refl
+            where
+              go : (b : Bool) → eqb d 3 ≡ b → d ≤ 2
+              go true f = absurd (c (eqb-true d 3 f))
+              go false f = let g = eqb-false d 3 f in omega arith
+
+      rounds : (4 ≤ degreeOf left) × SettledIn left k → (k ≤ 200) × ((k ≡ 0 → degreeOf left ≤ 2) × (degreeOf left ≤ 2 → k ≡ 0))
+      rounds w = (w .1 .most, (λ z. absurd (omega (arith, w .1 .least)), λ l. absurd (omega (arith, w .0))))
 
   -- one that is turned away is its number alone
   pub point-refused-alone : 0 < refusal → locusPointAt tf k-max n i ≡ noPoint refusal

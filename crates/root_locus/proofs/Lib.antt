@@ -7,5 +7,6 @@ pub mod ByDegree
 pub mod Table
 pub mod Poles
 pub mod Conditions
+pub mod Endings
 pub mod Laws
 pub mod Gains

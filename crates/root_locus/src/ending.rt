@@ -31,7 +31,7 @@ impl Ending {
     {
         match self {
             Ending::Settled(rounds) => std::num::nearest_u64_to_f64(rounds as u64),
-            Ending::Spent(last_change) => last_change,
+            Ending::Spent(change) => change,
             Ending::Broken => 0.0,
         }
     }

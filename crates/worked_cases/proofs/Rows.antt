@@ -35,6 +35,7 @@ use Rattle.root_locus.specs.Gain as gain
 use Rattle.root_locus.specs.Polynomial as polynomial
 use Rattle.root_locus.specs.StartingPoints as starting
 use Rattle.root_locus.specs.Search as search
+use Rattle.root_locus.specs.Ending as ending
 use Rattle.root_locus.specs.Roots as roots
 use Rattle.root_locus.specs.Stability as stability
 use Rattle.root_locus.specs.Locus as locus
@@ -119,7 +120,7 @@ same-outcome o p h =
 -- ---- a row
 unfoldable pub right : Row → Bool
 unfolding sameOutcome outcome
-    ieee.round ieee.neg ieee.add ieee.sub ieee.mul ieee.div ieee.lt ieee.le ieee.ofInt ieee.ofBits
+    ieee.round ieee.neg ieee.add ieee.sub ieee.mul ieee.div ieee.lt ieee.le ieee.isNan ieee.ofInt ieee.ofBits
     loops.countUp loops.upTo loops.filled
     choice.lesser choice.greater
     outcomes.answered
@@ -144,8 +145,9 @@ unfolding sameOutcome outcome
     gain.gainAt gain.gainOutcome gain.gainGrid
     polynomial.coefficient polynomial.loopPolynomial polynomial.counting
     starting.startTable starting.asComplex starting.firstPoint starting.startingPoint starting.startingPoints
-    search.horner search.evalPoly search.factor search.differences search.moved search.moveRoot search.oneRound search.rounds
-    roots.linear roots.discriminant roots.realPair roots.complexPair roots.quadratic roots.quotientAt roots.monic roots.searched roots.byDegree roots.padded
+    search.horner search.evalPoly search.factor search.differences search.moved search.moveRoot search.oneRound search.rounds search.further search.run
+    ending.someNan ending.unlessNan ending.endOf
+    roots.linear roots.discriminant roots.realPair roots.complexPair roots.quadratic roots.quotientAt roots.monic roots.searched roots.searchRun roots.searchEnd roots.byDegree roots.endingByDegree roots.padded
     stability.outside stability.noneOutside stability.stable
     locus.locusRefusal locus.foundPoint locus.noPoint locus.pointAt locus.locusPointAt
 right (c gives o) = sameOutcome (outcome c) o
@@ -157,14 +159,14 @@ right-means (c gives o) h = same-outcome (outcome c) o h
 -- ---- a table
 
 -- the one fact about a table: all its rows pass the test
-pub record Settled (rows : List Row) : Type 0 where
+pub record AllRight (rows : List Row) : Type 0 where
   pub test : T (every right rows)
 
 -- what it says of each row
-pub row-at : {rows : List Row} → Settled rows → (k : ℕ) (d : Row) → k < length rows → Right (getD rows k d)
+pub row-at : {rows : List Row} → AllRight rows → (k : ℕ) (d : Row) → k < length rows → Right (getD rows k d)
 row-at {rows} s k d h = right-means (getD rows k d) (every-at right d rows (s .test) k h)
 
 -- two tables as one
 infixl 65 _and_
-pub _and_ : {rows more : List Row} → Settled rows → Settled more → Settled (rows ++ more)
+pub _and_ : {rows more : List Row} → AllRight rows → AllRight more → AllRight (rows ++ more)
 _and_ {rows} {more} s t = record { test = every-append right rows more (s .test) (t .test) }

@@ -3,9 +3,9 @@ use Prim.Native.Nat.{ℕ, _<_}
 use lib.ListN.{length, getD}
 use Rattle.worked_cases.specs.Cases.{Row, Right}
 use Rattle.worked_cases.specs.Worked.{worked}
-use Rattle.worked_cases.proofs.Rows.{right, Settled, row-at}
+use Rattle.worked_cases.proofs.Rows.{right, AllRight, row-at}
 
-pub worked-right : Settled worked
+pub worked-right : AllRight worked
 unfolding right worked
 worked-right = record { test = tt }
 

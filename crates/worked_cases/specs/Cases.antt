@@ -4,7 +4,8 @@ use mathlib.Core.Path.{_≡_}
 use mathlib.Core.Bool.{Bool, false, cond}
 use mathlib.Core.List.{List, [], _∷_, _++_, map}
 use lib.ListN.{length, take, replicate}
-use lib.Ieee.{Float}
+use lib.IntN.{pos}
+use lib.Ieee.{Float, binary64, ofInt}
 use Rattle.laws.specs.Outcome.{Outcome, found, answered}
 use Rattle.scalar.specs.Scalar.{f0, f1}
 use Rattle.scalar.specs.Sqrt.{sqrtOf}
@@ -30,6 +31,7 @@ use Rattle.nyquist.specs.declared.summary.CurveSummary.{CurveSummary}
 use Rattle.root_locus.specs.Gain as gain
 use Rattle.root_locus.specs.Polynomial.{loopPolynomial}
 use Rattle.root_locus.specs.StartingPoints.{startingPoint}
+use Rattle.root_locus.specs.Ending.{endingNumber, endingValue}
 use Rattle.root_locus.specs.Stability.{stable}
 use Rattle.root_locus.specs.Locus.{Point, locusPointAt}
 
@@ -53,8 +55,8 @@ Sensitivity = sensitivity-summary.Part
 abbrev pub Curve : Type 0
 Curve = curve-summary.Part
 
--- The functions by their names in the Rust. A locus point is point i of n up to k_max, `stabilityAt` is the stability of its poles, and `startAt` is where the
--- search of a degree starts for root i; a grid has its top, its n and the lent list. The last five are answers of a summary after a list of calls.
+-- The functions by their names in the Rust. A locus point is point i of n up to k_max, `stabilityAt` is the stability of its poles, `locusEnding` how the search
+-- for them ended, and `startAt` is where the search of a degree starts for root i; a grid has its top, its n and the lent list. The last five are answers of a summary after a list of calls.
 pub data Case : Type 0 where
   sqrt : Float → Case
   multiply divide : Pair → Pair → Case
@@ -62,7 +64,7 @@ pub data Case : Type 0 where
   evalTfComplex : TransferFn → List Float → List Float → Case
   loopGainAt sensitivityAt compSensitivityAt controlSensitivityAt : LoopShaping → List Float → List Float → Case
   polynomial : TransferFn → Float → Case
-  locusPoint stabilityAt : TransferFn → Float → ℕ → ℕ → Case
+  locusPoint stabilityAt locusEnding : TransferFn → Float → ℕ → ℕ → Case
   startAt : ℕ → ℕ → Case
   stabilityRegion : List Pair → ℕ → Case
   gainCrossover phaseCrossover gainMargin phaseMargin : Bode → Case
@@ -85,6 +87,10 @@ parts (z ∷ zs) = z .re ∷ z .im ∷ parts zs
 -- the gain and the poles that count, or the refusal
 abbrev pointOutcome : Point → Outcome
 pointOutcome p = answered (p .number) (p .gain ∷ parts (take (p .count) (p .poles)))
+
+-- its ending's number and value, or the refusal
+abbrev endingOutcome : Point → Outcome
+endingOutcome p = answered (p .number) (ofInt binary64 (pos (endingNumber (p .ending))) ∷ endingValue (p .ending) ∷ [])
 
 -- a truth as a value: 1 or 0
 abbrev truth : Bool → Outcome
@@ -128,6 +134,7 @@ outcome (controlSensitivityAt l cosines sines) = responseBy controlSensitivity l
 outcome (polynomial f k) = found (loopPolynomial f k)
 outcome (locusPoint f k-max n i) = pointOutcome (locusPointAt f k-max n i)
 outcome (stabilityAt f k-max n i) = let p = locusPointAt f k-max n i in truth (stable (p .poles) (p .count))
+outcome (locusEnding f k-max n i) = endingOutcome (locusPointAt f k-max n i)
 outcome (startAt degree i) = found (valuesOf (startingPoint degree i))
 outcome (stabilityRegion poles count) = truth (stable (map complexOf poles) count)
 outcome (gainCrossover p) = scannedBy bode.reading bode.gainCrossover (p .omega) (p .db) (p .phase)

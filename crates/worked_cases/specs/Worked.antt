@@ -1,16 +1,16 @@
 -- The cases that document 01 works by hand, those with a star, row for row; then the same sweeps cut, fed and joined; then its other cases, and each refusal by its
--- number. Definitions only.
+-- number; then the smallest cases of the requests of document 02. Definitions only.
 use Prim.Native.Nat.{ℕ, _^_}
 use mathlib.Core.Bool.{true, false}
 use mathlib.Core.List.{List, [], _∷_}
 use lib.ListN.{take, drop, replicate}
-use lib.Ieee.{Float, nan, binary64, round, neg}
+use lib.Ieee.{Float, nan, inf, binary64, round, neg}
 use Rattle.laws.specs.Outcome.{Outcome, found, none}
 use Rattle.sweep.specs.Answer.{notKept}
 use Rattle.sweep.specs.Runs.{Calls, start, feed, join}
 use Rattle.transfer_fn.specs.declared.TransferFn.{TransferFn}
 use Rattle.sensitivity.specs.declared.LoopShaping.{LoopShaping}
-use Rattle.worked_cases.specs.Cases.{Bode, Sensitivity, Curve, tf, sqrt, multiply, divide, evalTfComplex, loopGainAt, sensitivityAt, compSensitivityAt, controlSensitivityAt, polynomial, locusPoint, stabilityAt, stabilityRegion, gainCrossover, phaseCrossover, gainMargin, phaseMargin, bandwidth, distanceToCritical, gainGrid, frequencyGrid, gainOfSummary, phaseOfSummary, bandwidthOfSummary, approachOfSummary, Row, _gives_}
+use Rattle.worked_cases.specs.Cases.{Bode, Sensitivity, Curve, tf, sqrt, multiply, divide, evalTfComplex, loopGainAt, sensitivityAt, compSensitivityAt, controlSensitivityAt, polynomial, locusPoint, stabilityAt, locusEnding, stabilityRegion, gainCrossover, phaseCrossover, gainMargin, phaseMargin, bandwidth, distanceToCritical, gainGrid, frequencyGrid, gainOfSummary, phaseOfSummary, bandwidthOfSummary, approachOfSummary, Row, _gives_}
 
 -- ---- how numbers are written
 
@@ -52,6 +52,14 @@ sines = - 0 ∷ - 0 ∷ []
 -- b 0, a 0, of any order
 abbrev ofOrder : ℕ → TransferFn
 ofOrder n = tf (replicate n (+ 0)) (replicate n (+ 0))
+
+-- b 0, a (0, 0, 0, d): at any gain the polynomial 1, 0, 0, 0, d
+abbrev fourth : Float → TransferFn
+fourth d = tf (+ 0 ∷ + 0 ∷ + 0 ∷ + 0 ∷ []) (+ 0 ∷ + 0 ∷ + 0 ∷ d ∷ [])
+
+-- b (-0.5, 0), a (1, NaN): at gain 1 the polynomial 0.5, 1, NaN
+abbrev halved : TransferFn
+halved = tf (neg (1 over 2) ∷ + 0 ∷ []) (+ 1 ∷ nan ∷ [])
 
 -- ω 1, 2, 4, 8; dB 6, 2, -2, -10; phase -90, -120, -160, -200
 abbrev rising : Bode
@@ -124,6 +132,13 @@ isStable = found (+ 1 ∷ [])
 
 abbrev notStable : Outcome
 notStable = found (+ 0 ∷ [])
+
+-- how a search ended: settled with its rounds, or broken
+abbrev settled : ℕ → Outcome
+settled rounds = found (+ 0 ∷ + rounds ∷ [])
+
+abbrev broken : Outcome
+broken = found (+ 2 ∷ + 0 ∷ [])
 
 -- a number as document 01 has it, and values or a lent list as the call leaves it
 abbrev number : ℕ → List Float → Outcome
@@ -221,4 +236,17 @@ worked =
     (locusPoint (ofOrder 3) nan 4097 4097 gives number 15 []) ∷
     (locusPoint (ofOrder 3) nan 4096 4096 gives number 17 []) ∷
     (locusPoint (ofOrder 3) nan 4096 4095 gives number 12 []) ∷
+    (locusEnding (ofOrder 3) nan 4096 4095 gives number 12 []) ∷
+    -- W1, how the search ended. By a formula, or without a pole, in 0 rounds, whatever the coefficients hold; an infinite pole is not NaN.
+    (locusEnding first (+ 2) 2 1 gives settled 0) ∷
+    (locusEnding second (+ 1) 2 0 gives settled 0) ∷
+    (locusEnding (tf (- 1 ∷ []) (nan ∷ [])) (+ 1) 2 1 gives settled 0) ∷
+    (locusEnding (tf (+ 0 ∷ []) (inf true ∷ [])) (+ 1) 2 0 gives settled 0) ∷
+    -- One NaN part is enough, of a formula too: the pole of 1, NaN; the imaginary parts of 0.5, 1, NaN.
+    (locusEnding (tf (+ 0 ∷ []) (nan ∷ [])) (+ 1) 2 0 gives broken) ∷
+    (locusPoint halved (+ 1) 2 1 gives point (+ 1) (- 1 ∷ nan ∷ - 1 ∷ nan ∷ [])) ∷
+    (locusEnding halved (+ 1) 2 1 gives broken) ∷
+    -- The search for 1, 0, 0, 0, -1 starts at the poles, but for roundings. That for 1, 0, 0, 0, NaN has no change in its first round, and every part is NaN.
+    (locusEnding (fourth (- 1)) (+ 1) 2 0 gives settled 1) ∷
+    (locusEnding (fourth nan) (+ 1) 2 0 gives broken) ∷
     []

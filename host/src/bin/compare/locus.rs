@@ -2,14 +2,16 @@
 
 use crate::responses::described;
 use crate::tally::{bits, same_number, same_numbers, Comparison, Place};
-use bazintroa::{exported, locus_point, stability_region, Complex, LocusPoint, TransferFn};
+use bazintroa::{exported, locus_point, stability_region, Complex, Ending, LocusPoint, TransferFn};
 use vectors::coefficients::Coefficients;
+use vectors::ending;
 use vectors::locus::{
-    dropped, high_degrees, low_degrees, mixed_region, pole_of_square, random_point, Answer, Point,
-    Region, KINDS,
+    dropped, high_degrees, low_degrees, mixed_region, pole_of_square, random_point, Answer, Found,
+    Point, Region, KINDS,
 };
 use vectors::numbers::{MAX_ORDER, MAX_POINTS, VALUE};
 use vectors::random::{with_neighbours, Random};
+use vectors::searches;
 
 /// Polynomials and points at the edges of the root search, to be varied.
 pub struct Edges {
@@ -20,7 +22,12 @@ pub struct Edges {
 impl Edges {
     pub fn new(random: &mut Random) -> Self {
         Self {
-            polynomials: [low_degrees(random), high_degrees(random)].concat(),
+            polynomials: [
+                low_degrees(random),
+                high_degrees(random),
+                searches::edges(random),
+            ]
+            .concat(),
             points: dropped(random),
         }
     }
@@ -44,7 +51,7 @@ pub fn compare_whole(comparison: &mut Comparison, random: &mut Random) {
         point.i = i;
         let expected = match point.refusal() {
             Some(number) => Err(number),
-            None => Ok(expected),
+            None => Ok(point.with_ending(expected)),
         };
         check(comparison, &point, &expected);
     }
@@ -67,8 +74,9 @@ pub fn compare_region(comparison: &mut Comparison, random: &mut Random) {
     });
 }
 
-fn check(comparison: &mut Comparison, point: &Point, expected: &Answer) {
+fn check(comparison: &mut Comparison, point: &Point, answer: &Answer) {
     const COUNT: usize = 0x5EED_5EED;
+    const KIND: u32 = 0x5EED_5EED;
     let Coefficients { order, b, a } = point.function;
     let tf = TransferFn {
         b,
@@ -79,6 +87,8 @@ fn check(comparison: &mut Comparison, point: &Point, expected: &Answer) {
     let mut gain = Place::new();
     let mut poles = Place::new();
     let mut counts = [COUNT; 3];
+    let mut kinds = [KIND; 3];
+    let mut ending_value = Place::new();
     let number = u64::from(exported::locus_point(
         &b,
         &a,
@@ -89,53 +99,87 @@ fn check(comparison: &mut Comparison, point: &Point, expected: &Answer) {
         &mut gain.lent[0],
         &mut poles.lent,
         &mut counts[1],
+        &mut kinds[1],
+        &mut ending_value.lent[0],
     ));
     let safe = locus_point(&tf, point.k_max, n, i);
     let safe = safe.map_err(|refusal| u64::from(refusal.number()));
-    let expected = places(expected);
+    let ending = answer.as_ref().ok().map(|found| found.ending);
+    let expected = places(answer);
     let [before, count, after] = counts;
+    let [before_kind, kind, after_kind] = kinds;
     let same = number == expected.as_ref().err().copied().unwrap_or(VALUE)
         && gain.holds(expected.as_ref().ok().map(|point| [point.gain]))
         && poles.holds(expected.as_ref().ok().map(parts))
         && [before, after] == [COUNT; 2]
         && count == expected.as_ref().map_or(COUNT, |point| point.count)
+        && [before_kind, after_kind] == [KIND; 2]
+        && kind == ending.map_or(KIND, |ending| ending.kind() as u32)
+        && ending_value.holds(ending.map(|ending| [ending.value()]))
         && match (&safe, &expected) {
             (Ok(safe), Ok(expected)) => {
                 same_number(safe.gain, expected.gain)
                     && same_numbers(&parts(safe), &parts(expected))
                     && safe.count == expected.count
+                    && same_ending(safe.ending, expected.ending)
             }
             (safe, expected) => safe.as_ref().err() == expected.as_ref().err(),
         };
-    comparison.note("locus_point", number, same, || {
+    comparison.note(name(answer), number, same, || {
         format!(
-            "{}\n  largest gain:{}, n {n}, i {i}\n  exported: {number}, gain:{}\n    poles:{}\n    count, between two places: {counts:?}\n  safe: {}\n  expected: {}",
+            "{}\n  largest gain:{}, n {n}, i {i}\n  exported: {number}, gain:{}\n    poles:{}\n    count, between two places: {counts:?}\n    ending, between two places: {kinds:?}, its value:{}\n  safe: {}\n  expected: {}",
             described("transfer function", &tf),
             bits(&[point.k_max]),
             gain.bits(),
             poles.bits(),
+            ending_value.bits(),
             shown(&safe),
             shown(&expected),
         )
     });
 }
 
+/// The name by which a call is counted: points by how the search for their poles ended.
+fn name(answer: &Answer) -> &'static str {
+    match answer {
+        Ok(found) => match found.ending {
+            ending::Ending::Settled(0) => "locus_point, settled at once",
+            ending::Ending::Settled(_) => "locus_point, settled",
+            ending::Ending::Spent(_) => "locus_point, spent",
+            ending::Ending::Broken => "locus_point, broken",
+        },
+        Err(_) => "locus_point, refused",
+    }
+}
+
 /// An answer as the port gives it: past the count there is (0, 0).
 fn places(answer: &Answer) -> Result<LocusPoint, u64> {
-    answer
-        .as_ref()
-        .map_err(|&number| number)
-        .map(|(gain, found)| {
-            let mut poles = [Complex::new(0.0, 0.0); 8];
-            for (place, &[re, im]) in poles.iter_mut().zip(found) {
-                *place = Complex::new(re, im);
-            }
-            LocusPoint {
-                gain: *gain,
-                poles,
-                count: found.len(),
-            }
-        })
+    let point = |found: &Found| {
+        let mut poles = [Complex::new(0.0, 0.0); 8];
+        for (place, &[re, im]) in poles.iter_mut().zip(&found.poles) {
+            *place = Complex::new(re, im);
+        }
+        LocusPoint {
+            gain: found.gain,
+            poles,
+            count: found.poles.len(),
+            ending: match found.ending {
+                ending::Ending::Settled(rounds) => Ending::Settled(rounds),
+                ending::Ending::Spent(last_change) => Ending::Spent(last_change),
+                ending::Ending::Broken => Ending::Broken,
+            },
+        }
+    };
+    answer.as_ref().map_err(|&number| number).map(point)
+}
+
+fn same_ending(a: Ending, b: Ending) -> bool {
+    match (a, b) {
+        (Ending::Settled(a), Ending::Settled(b)) => a == b,
+        (Ending::Spent(a), Ending::Spent(b)) => same_number(a, b),
+        (Ending::Broken, Ending::Broken) => true,
+        _ => false,
+    }
 }
 
 fn parts(point: &LocusPoint) -> [f64; 16] {
@@ -148,17 +192,18 @@ fn parts(point: &LocusPoint) -> [f64; 16] {
 fn shown(answer: &Result<LocusPoint, u64>) -> String {
     match answer {
         Ok(point) => format!(
-            "{VALUE}, gain:{}, poles:{}, count {}",
+            "{VALUE}, gain:{}, poles:{}, count {}, ending {:?}",
             bits(&[point.gain]),
             bits(&parts(point)),
-            point.count
+            point.count,
+            point.ending
         ),
         Err(number) => number.to_string(),
     }
 }
 
 fn draw(random: &mut Random, edges: &Edges) -> Point {
-    match random.below(16) {
+    match random.below(20) {
         0..=7 => {
             let order = 1 + random.below(MAX_ORDER);
             let kind = random.pick(&KINDS);
@@ -180,6 +225,10 @@ fn draw(random: &mut Random, edges: &Edges) -> Point {
                 vary(random, coefficient);
             }
             point
+        }
+        14..=17 => {
+            let polynomial = searches::hard(random);
+            Point::of_polynomial(random, &polynomial)
         }
         _ => at_limits(random),
     }

@@ -3,6 +3,7 @@
 pub mod coefficients;
 pub mod complex;
 pub mod constant;
+pub mod ending;
 pub mod grids;
 pub mod locus;
 pub mod numbers;
@@ -10,6 +11,7 @@ pub mod panel;
 pub mod random;
 pub mod rows;
 pub mod scans;
+pub mod searches;
 pub mod sensitivity;
 pub mod start_table;
 pub mod summaries;

@@ -2,16 +2,18 @@
 
 use crate::coefficients::{mixed, moderate, special, stable, uniform_bits, Coefficients, Kind};
 use crate::constant::at_constant;
+use crate::ending::Ending;
 use crate::numbers::{
     assert_refused_alike, own_refusal, CUBIC, INSUFFICIENT_POINTS, INVALID_PARAMETER, MAX_ORDER,
     MAX_POINTS, NO_SUCH_POINT, ORDER, TOO_MANY, VALUE,
 };
 use crate::random::{beside, power_of_two, specials, with_neighbours, Random, EPS};
 use crate::rows::{float, pair, Rows};
+use crate::searches;
 use crate::words::{expected_bits, Words};
 use heapless::Vec as HVec;
 use oxictl::core::frequency_domain::{compute_root_locus, stability_region, Complex};
-use oxictl_inner::core::frequency_domain::root_locus::call_compute_closed_loop_poles;
+use oxictl_inner::core::frequency_domain::{root_locus, root_locus_told};
 
 /// The words that a case of each kind starts with.
 const POINT: u64 = 1;
@@ -20,8 +22,15 @@ const REGION: u64 = 2;
 /// A gain and its poles.
 pub type GainAndPoles = (f64, Vec<[f64; 2]>);
 
+/// A point of the locus.
+pub struct Found {
+    pub gain: f64,
+    pub poles: Vec<[f64; 2]>,
+    pub ending: Ending,
+}
+
 /// A point, or the number of a refusal.
-pub type Answer = Result<GainAndPoles, u64>;
+pub type Answer = Result<Found, u64>;
 
 /// What is asked of the locus: its point `i` of `n`.
 #[derive(Clone)]
@@ -95,11 +104,26 @@ impl Point {
     pub fn answer(&self) -> Answer {
         match self.refusal() {
             Some(number) => Err(number),
-            None => Ok((
-                self.gain(),
-                at_constant!(self.function.order, N in 1 2 3 4 5 6 7 8
-                    => self.poles::<N>(), else unreachable!("refused")),
-            )),
+            None => {
+                let poles = at_constant!(self.function.order, N in 1 2 3 4 5 6 7 8
+                    => self.poles::<N>(), else unreachable!("refused"));
+                Ok(self.with_ending((self.gain(), poles)))
+            }
+        }
+    }
+
+    /// The point that the Rust found, with its ending by the search that tells its rounds. The
+    /// program stops if that one finds others than these.
+    pub fn with_ending(&self, (gain, poles): GainAndPoles) -> Found {
+        let (told, rounds) = at_constant!(self.function.order, N in 1 2 3 4 5 6 7 8
+            => self.told_poles::<N>(), else unreachable!("refused"));
+        assert_eq!(expected_bits(self.gain()), expected_bits(gain));
+        assert_eq!(bits_of(&told), bits_of(&poles));
+        let ending = Ending::new(&poles, rounds);
+        Found {
+            gain,
+            poles,
+            ending,
         }
     }
 
@@ -111,7 +135,7 @@ impl Point {
             let refusal = self.refusal();
             assert_refused_alike(&locus, refusal);
             if refusal.is_none() {
-                let point = locus.map(|points| points[self.i as usize].clone());
+                let point = locus.map(|points| self.with_ending(points[self.i as usize].clone()));
                 assert_eq!(written(&point), written(&answer));
             }
         }
@@ -120,9 +144,17 @@ impl Point {
 
     fn poles<const N: usize>(&self) -> Vec<[f64; 2]> {
         let tf = self.function.transfer_fn::<N>();
-        let poles = call_compute_closed_loop_poles(&tf, self.gain());
+        let poles = root_locus::call_compute_closed_loop_poles(&tf, self.gain());
         assert_eq!(poles.len(), self.coefficients_left().saturating_sub(1));
         poles.iter().map(|pole| [pole.re, pole.im]).collect()
+    }
+
+    /// The poles once more, with the rounds of the search for them.
+    fn told_poles<const N: usize>(&self) -> (Vec<[f64; 2]>, Option<root_locus_told::Rounds>) {
+        let tf = self.function.transfer_fn::<N>();
+        let (poles, rounds) = root_locus_told::call_compute_closed_loop_poles(&tf, self.gain());
+        let poles = poles.iter().map(|pole| [pole.re, pole.im]).collect();
+        (poles, rounds)
     }
 
     /// The locus that the Rust computes as a whole, for some numbers of points.
@@ -181,17 +213,20 @@ pub fn vectors() -> Words {
     points.extend(refused(random));
 
     let mut words = Words::default();
+    let mut endings = Vec::new();
     for point in &points {
-        write_point(&mut words, point);
+        endings.extend(write_point(&mut words, point));
     }
     for region in regions(random) {
         write_region(&mut words, &region);
     }
     let mut points = starting_points(random);
     points.extend(zeros(random));
+    points.extend(searches::points(random));
     for point in &points {
-        write_point(&mut words, point);
+        endings.extend(write_point(&mut words, point));
     }
+    searches::assert_all(&endings);
 
     words.wrong_on_purpose(|_| ());
     for no_question in [0, 3] {
@@ -293,22 +328,26 @@ fn inner_point(random: &mut Random, order: u64) -> Point {
     }
 }
 
-fn row(rows: &mut Rows, point: &Point) {
+/// A question about a point in the words of the definitions.
+pub fn case(rows: &mut Rows, question: &str, point: &Point) -> String {
     let function = format!(" {}", point.function.text());
     let function = rows.name("function", "TransferFn", &function);
-    let case = format!(
-        "locusPoint {function} {} {} {}",
-        float(point.k_max),
-        point.n,
-        point.i
-    );
+    let Point { k_max, n, i, .. } = *point;
+    format!("{question} {function} {} {n} {i}", float(k_max))
+}
+
+fn row(rows: &mut Rows, point: &Point) {
+    let case = case(rows, "locusPoint", point);
     match point.answer() {
-        Ok((gain, poles)) => rows.row(&case, VALUE, &[vec![gain], poles.concat()].concat()),
+        Ok(Found { gain, poles, .. }) => {
+            rows.row(&case, VALUE, &[vec![gain], poles.concat()].concat())
+        }
         Err(number) => rows.row(&case, number, &[]),
     }
 }
 
-fn write_point(words: &mut Words, point: &Point) {
+/// Writes a case. If it is not refused it has a count of poles and an ending.
+fn write_point(words: &mut Words, point: &Point) -> Option<(usize, Ending)> {
     words.word(POINT);
     words.arguments(&[point.k_max]);
     words.word(point.function.order);
@@ -317,11 +356,22 @@ fn write_point(words: &mut Words, point: &Point) {
     words.arguments(&point.function.b);
     words.arguments(&point.function.a);
     let answer = point.checked_answer();
-    words.expected(true, written(&answer).to_vec());
-    words.count(match answer {
-        Ok((_, poles)) => format!("point {VALUE}, {} poles", poles.len()),
-        Err(number) => format!("point {number}"),
-    });
+    let expected = written(&answer);
+    words.expected(true, expected.to_vec());
+    match answer {
+        Ok(Found { poles, ending, .. }) => {
+            let [kind, value] = [ENDING, ENDING + 1];
+            words.or_wrong(ending.other_kinds().map(|other| (kind, other)));
+            words.or_wrong(ending.other_values().map(|other| (value, other.to_bits())));
+            let count = poles.len();
+            words.count(format!("point {VALUE}, {count} poles, {}", ending.name()));
+            Some((count, ending))
+        }
+        Err(number) => {
+            words.count(format!("point {number}"));
+            None
+        }
+    }
 }
 
 fn write_region(words: &mut Words, region: &Region) {
@@ -333,17 +383,26 @@ fn write_region(words: &mut Words, region: &Region) {
     words.count(format!("region {}", u64::from(stable)));
 }
 
-/// The words of an answer: its number, the gain, the count of poles, places for eight of them.
-fn written(answer: &Answer) -> [u64; 19] {
-    let mut words = [0; 19];
+fn bits_of(poles: &[[f64; 2]]) -> Vec<u64> {
+    poles.concat().into_iter().map(expected_bits).collect()
+}
+
+/// Where the ending stands among the words of an answer.
+const ENDING: usize = 19;
+
+/// The words of an answer: its number, the gain, the count of poles, places for eight of them, the
+/// ending's kind and value.
+fn written(answer: &Answer) -> [u64; 21] {
+    let mut words = [0; 21];
     match answer {
-        Ok((gain, poles)) => {
+        Ok(found) => {
             words[0] = VALUE;
-            words[1] = expected_bits(*gain);
-            words[2] = poles.len() as u64;
-            for (word, &part) in words[3..].iter_mut().zip(poles.iter().flatten()) {
-                *word = expected_bits(part);
-            }
+            words[1] = expected_bits(found.gain);
+            words[2] = found.poles.len() as u64;
+            let parts = bits_of(&found.poles);
+            words[3..][..parts.len()].copy_from_slice(&parts);
+            words[ENDING] = found.ending.kind();
+            words[ENDING + 1] = expected_bits(found.ending.value());
         }
         Err(number) => words[0] = *number,
     }
@@ -586,14 +645,14 @@ fn product(first: &[f64], second: &[f64]) -> Vec<f64> {
 }
 
 /// The polynomial with these roots, up to rounding.
-fn with_roots(roots: &[f64]) -> Vec<f64> {
+pub fn with_roots(roots: &[f64]) -> Vec<f64> {
     roots.iter().fold(vec![1.0], |polynomial, root| {
         product(&polynomial, &[1.0, -root])
     })
 }
 
 /// The leading 1 and then `degree` coefficients.
-fn monic(degree: usize, mut coefficient: impl FnMut() -> f64) -> Vec<f64> {
+pub fn monic(degree: usize, mut coefficient: impl FnMut() -> f64) -> Vec<f64> {
     let mut list = vec![1.0];
     list.extend((0..degree).map(|_| coefficient()));
     list

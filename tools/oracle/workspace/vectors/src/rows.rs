@@ -4,7 +4,7 @@
 use crate::numbers::{NONE, NOT_KEPT, VALUE};
 use crate::random::Random;
 use crate::words::expected_bits;
-use crate::{complex, grids, locus, scans, sensitivity, start_table, summaries};
+use crate::{complex, grids, locus, scans, searches, sensitivity, start_table, summaries};
 
 const HEAD: &str = "\
 -- Cases that the Rust was asked about, with its answers; a float is given by its bits. Refusals that the Rust does not have are document 01's.
@@ -18,7 +18,7 @@ use Rattle.sweep.specs.Answer.{notKept}
 use Rattle.sweep.specs.Runs.{start, feed, join}
 use Rattle.transfer_fn.specs.declared.TransferFn.{TransferFn}
 use Rattle.sensitivity.specs.declared.LoopShaping.{LoopShaping}
-use Rattle.worked_cases.specs.Cases.{Bode, Sensitivity, Curve, sqrt, multiply, divide, reciprocal, magnitude, evalTfComplex, loopGainAt, sensitivityAt, compSensitivityAt, controlSensitivityAt, startAt, locusPoint, stabilityRegion, gainCrossover, phaseCrossover, gainMargin, phaseMargin, sensitivityCrossover, bandwidth, distanceToCritical, gainGrid, frequencyGrid, gainOfSummary, phaseOfSummary, crossoverOfSummary, bandwidthOfSummary, approachOfSummary, Row, _gives_}
+use Rattle.worked_cases.specs.Cases.{Bode, Sensitivity, Curve, sqrt, multiply, divide, reciprocal, magnitude, evalTfComplex, loopGainAt, sensitivityAt, compSensitivityAt, controlSensitivityAt, startAt, locusPoint, locusEnding, stabilityRegion, gainCrossover, phaseCrossover, gainMargin, phaseMargin, sensitivityCrossover, bandwidth, distanceToCritical, gainGrid, frequencyGrid, gainOfSummary, phaseOfSummary, crossoverOfSummary, bandwidthOfSummary, approachOfSummary, Row, _gives_}
 
 abbrev bits : ℕ → Float
 bits n = ofBits binary64 n
@@ -102,6 +102,7 @@ pub fn file() -> String {
     sensitivity::rows(&mut rows, random);
     start_table::rows(&mut rows);
     locus::rows(&mut rows, random);
+    searches::rows(&mut rows, &mut Random::new(8));
     scans::rows(&mut rows, random);
     grids::rows(&mut rows, random);
     summaries::rows(&mut rows, random);

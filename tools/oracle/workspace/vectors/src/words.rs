@@ -19,6 +19,8 @@ struct Answer {
     start: usize,
     len: usize,
     numbered: bool,
+    /// More ways to make it wrong: the place of a word in it, and what is changed.
+    others: Vec<(usize, u64)>,
 }
 
 impl Answer {
@@ -31,7 +33,14 @@ impl Answer {
             };
             masks.iter().map(move |&mask| (self.start + place, mask))
         };
-        (0..self.len).flat_map(change).collect()
+        let mut changes: Vec<_> = (0..self.len).flat_map(change).collect();
+        for &(place, mask) in &self.others {
+            let other = (self.start + place, mask);
+            if !changes.contains(&other) {
+                changes.push(other);
+            }
+        }
+        changes
     }
 }
 
@@ -124,8 +133,18 @@ impl Words {
             start: self.case.words.len(),
             len: words.len(),
             numbered,
+            others: Vec::new(),
         });
         self.case.words.extend(words);
+    }
+
+    /// Words that would be wrong in the last answer, beside those that always are, with the places
+    /// in it where they would be.
+    pub fn or_wrong(&mut self, others: impl Iterator<Item = (usize, u64)>) {
+        let Case { words, answers } = &mut self.case;
+        let answer = answers.last_mut().expect("there is an answer");
+        let masks = others.map(|(place, other)| (place, words[answer.start + place] ^ other));
+        answer.others.extend(masks);
     }
 
     /// Ends a case, which is one more of `kind`.
