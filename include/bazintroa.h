@@ -62,6 +62,11 @@
 #define BAZINTROA_WRONG_INDEX 17u
 #define BAZINTROA_WRONG_BYTE_COUNT 19u
 
+/* How the search for the poles of a locus point ended: its place `ending`. */
+#define BAZINTROA_SETTLED 0u
+#define BAZINTROA_SPENT 1u
+#define BAZINTROA_BROKEN 2u
+
 #ifdef __cplusplus
 extern "C" {
 #endif
@@ -179,12 +184,25 @@ uint32_t bazintroa_fill_frequency_grid(double omega_max, size_t n, double *list,
 /* Point i of n: the gain (k_max * i) / (n - 1) and the poles of the closed loop there, eight
  * places of real and imaginary part, (0, 0) past the count. Refused: 1 if n < 2, 3 if k_max is
  * 0 or below (a NaN passes) or the order is above 8, 16 if it is 0, 15 if n > 4,096, 17 if i >= n,
- * 12 if the degree left is 3. */
+ * 12 if the degree left is 3.
+ *
+ * No poles, one or two come without a search, four to eight from one of up to 200 rounds. Look at
+ * how it ended before the poles:
+ *     ending             ending_value
+ *     BAZINTROA_SETTLED  the round, 1 to 200, that moved no pole by 1e-12 or more; 0 without a search
+ *     BAZINTROA_SPENT    the largest move of the last of 200 rounds, 1e-12 or more
+ *     BAZINTROA_BROKEN   0; a part of a pole is NaN, which comes before the others
+ * Settled does not mean right. Two poles that meet have a difference of 0, are skipped from then on
+ * and add no change: order 4, b 0, a (-2, 4, 2, 3) is settled in round 31 with (-1, 0) twice, where
+ * the polynomial 1, -2, 4, 2, 3 is 8. Multiplied out, right poles give the polynomial back.
+ *
+ * All five places are written on 0; a refused call writes none. */
 uint32_t bazintroa_locus_point(const double b[8], const double a[8], size_t order, double k_max,
-                               size_t n, size_t i, double *gain, double poles[16], size_t *count);
+                               size_t n, size_t i, double *gain, double poles[16], size_t *count,
+                               uint32_t *ending, double *ending_value);
 
 /* False exactly if one of the first `count` poles, of at most eight, has squared magnitude 1 or
- * more. A NaN pole has not. */
+ * more. A NaN pole has not, so true says nothing of a point that is broken. */
 bool bazintroa_stability_region(const double poles[16], size_t count);
 
 /* ---- summaries ----

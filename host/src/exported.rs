@@ -163,7 +163,8 @@ exported! {
 
     locus_point(
         b: &[f64; 8], a: &[f64; 8], order: usize, k_max: f64, n: usize, i: usize,
-        gain: &mut f64, poles: &mut [f64; 16], count: &mut usize
+        gain: &mut f64, poles: &mut [f64; 16], count: &mut usize,
+        ending: &mut u32, ending_value: &mut f64
     ) -> u32;
     stability_region(poles: &[f64; 16], count: usize) -> bool;
 
@@ -279,9 +280,20 @@ mod tests {
     fn a_refused_point_writes_nothing() {
         let one = [1.0; 8];
         let (mut gain, mut poles, mut count) = (MARK, [MARK; 16], 99);
+        let (mut ending, mut ending_value) = (99, MARK);
         let mut ask = |order, k_max, n, i| {
             locus_point(
-                &one, &one, order, k_max, n, i, &mut gain, &mut poles, &mut count,
+                &one,
+                &one,
+                order,
+                k_max,
+                n,
+                i,
+                &mut gain,
+                &mut poles,
+                &mut count,
+                &mut ending,
+                &mut ending_value,
             )
         };
         assert_eq!(ask(1, 1.0, 1, 0), 1);
@@ -292,6 +304,51 @@ mod tests {
         assert_eq!(ask(1, 1.0, 2, 2), 17);
         assert_eq!(ask(3, 1.0, 2, 0), 12);
         assert_eq!((gain, poles, count), (MARK, [MARK; 16], 99));
+        assert_eq!((ending, ending_value), (99, MARK));
+    }
+
+    /// The number and the five places of point 0 of 2, which hold marks before it is asked for.
+    fn asked(a: &[f64]) -> (u32, f64, [f64; 16], usize, u32, f64) {
+        let mut of_eight = [0.0; 8];
+        of_eight[..a.len()].copy_from_slice(a);
+        let (mut gain, mut poles, mut count) = (MARK, [MARK; 16], 99);
+        let (mut ending, mut ending_value) = (99, MARK);
+        let number = locus_point(
+            &[0.0; 8],
+            &of_eight,
+            a.len(),
+            1.0,
+            2,
+            0,
+            &mut gain,
+            &mut poles,
+            &mut count,
+            &mut ending,
+            &mut ending_value,
+        );
+        (number, gain, poles, count, ending, ending_value)
+    }
+
+    #[test]
+    fn a_point_writes_its_five_places() {
+        // By a formula, and by a search that settles.
+        let (number, gain, poles, count, ending, ending_value) = asked(&[-0.5]);
+        assert_eq!((number, gain, poles[0], count), (0, 0.0, 0.5, 1));
+        assert_eq!(poles[1..], [0.0; 15]);
+        assert_eq!((ending, ending_value.to_bits()), (0, 0));
+        let (number, .., count, ending, ending_value) = asked(&[-2.0, 4.0, 2.0, 3.0]);
+        assert_eq!((number, count, ending, ending_value), (0, 4, 0, 31.0));
+        // The last of 200 rounds still moves a pole.
+        let (number, .., count, ending, ending_value) = asked(&[5.0, -1.0, 2.0, 1.0]);
+        assert_eq!((number, count, ending), (0, 4, 1));
+        assert_eq!(ending_value, 0.05684576108915305);
+        // A NaN among the poles, by a formula and by a search.
+        for a in [&[f64::NAN][..], &[0.0, 0.0, 0.0, 1.7e308]] {
+            let (number, _, poles, count, ending, ending_value) = asked(a);
+            assert_eq!((number, count, ending), (0, a.len(), 2));
+            assert_eq!(ending_value.to_bits(), 0);
+            assert!(poles[..2 * count].iter().any(|part| part.is_nan()));
+        }
     }
 
     #[test]

@@ -4,8 +4,8 @@
 //! and its name, but for these: [`Refusal`] is `FreqError` there, which has four cases; [`Reading`] is
 //! `BodePoint`; [`LocusPoint`] is `RootLocusPoint`, and [`locus_point`] gives one of those that
 //! `compute_root_locus` gives; [`TransferFn::eval`] is `eval_tf_complex`. Summaries, the filling of
-//! grids, [`gain_crossover_readings`], [`Complex::divide_or_zero`], [`pairs`] and [`panel`] are not in
-//! the Rust.
+//! grids, [`Ending`], [`gain_crossover_readings`], [`Complex::divide_or_zero`], [`pairs`] and [`panel`]
+//! are not in the Rust.
 //!
 //! See the repository's README for what is proved. A call is answered or turned away with a
 //! [`Refusal`], whatever its arguments are.
@@ -54,7 +54,7 @@ pub use bode::{
 pub use complex::Complex;
 pub use nyquist::{distance_to_critical, fill_frequency_grid, CurveSummary};
 pub use refusal::Refusal;
-pub use root_locus::{fill_gain_grid, locus_point, stability_region, LocusPoint};
+pub use root_locus::{fill_gain_grid, locus_point, stability_region, Ending, LocusPoint};
 pub use scalar::{abs, sqrt};
 pub use sensitivity::{
     bandwidth, sensitivity_crossover, Bandwidth, LoopShaping, SensitivitySummary,

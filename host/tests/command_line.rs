@@ -20,6 +20,21 @@ fn help_for_all_and_each() {
         assert!(help.contains("\nExample:\n"));
         assert!(help.lines().all(|line| line.chars().count() <= 100));
     }
+    // What the poles are worth.
+    for command in ["loop", "locus"] {
+        let help = said([command, "--help"]);
+        for words in [
+            "settled ",
+            "spent ",
+            "broken ",
+            "off ",
+            "Settled does not mean right",
+            "gives_polynomial_back",
+            "spent or off",
+        ] {
+            assert!(help.contains(words), "{command}: {words}");
+        }
+    }
     assert_eq!(said(["-h"]), all);
     assert_eq!(said(["help"]), all);
     assert_eq!(

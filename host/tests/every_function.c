@@ -278,7 +278,7 @@ static int zeros(const double *poles, size_t from) {
     return 1;
 }
 
-/* Whether one of four poles is the root, up to what the search leaves. */
+/* Whether one of four poles lies there, up to what the search leaves. */
 static int has(const double *poles, double re, double im) {
     for (size_t i = 0; i < 4; i++)
         if (fabs(poles[2 * i] - re) < 1e-9 && fabs(poles[2 * i + 1] - im) < 1e-9)
@@ -286,43 +286,66 @@ static int has(const double *poles, double re, double im) {
     return 0;
 }
 
+/* The places of a point, and how it ended. */
+static double gain = MARK, poles[16];
+static size_t count = 99;
+static uint32_t ending = 99;
+static double ending_value = MARK;
+
+#define PLACES &gain, poles, &count, &ending, &ending_value
+
+static int ended(uint32_t kind, double value) {
+    return ending == kind && same(ending_value, value);
+}
+
 static void locus(void) {
     const double b1[8] = {0.5}, a1[8] = {-0.5}, b2[8] = {0, 1}, a2[8] = {-1, 0.25};
     const double b_none[8] = {-1}, a_none[8] = {0.5}, none[8] = {0};
-    const double a3[8] = {0, 0, 0.125}, a4[8] = {0, 0, 0, -1};
-    double gain = MARK, poles[16];
-    size_t count = 99;
+    const double a3[8] = {0, 0, 0.125}, a4[8] = {0, 0, 0, -1}, a_half[8] = {0, 0, 0, 0.25};
+    const double a_met[8] = {-2, 4, 2, 3}, a_spent[8] = {5, -1, 2, 1};
+    const double a_nan[8] = {NAN}, a_infinite[8] = {-INFINITY}, a_huge[8] = {0, 0, 0, 1.7e308};
 
     TRY(bazintroa_locus_point);
-    EXPECT(bazintroa_locus_point(b1, a1, 1, 2, 2, 1, &gain, poles, &count) == 0);
+    EXPECT(bazintroa_locus_point(b1, a1, 1, 2, 2, 1, PLACES) == 0 && ended(BAZINTROA_SETTLED, 0));
     EXPECT(gain == 2 && count == 1 && is(poles, 0.25, 0) && zeros(poles, 1));
-    EXPECT(bazintroa_locus_point(b2, a2, 2, 0.5, 2, 0, &gain, poles, &count) == 0);
+    EXPECT(bazintroa_locus_point(b2, a2, 2, 0.5, 2, 0, PLACES) == 0 && ended(BAZINTROA_SETTLED, 0));
     EXPECT(gain == 0 && count == 2 && is(poles, 0.5, 0) && is(poles + 2, 0.5, 0) && zeros(poles, 2));
-    EXPECT(bazintroa_locus_point(b_none, a_none, 1, 1, 2, 1, &gain, poles, &count) == 0);
-    EXPECT(gain == 1 && count == 0 && zeros(poles, 0));
-    /* z^4 - 1, and order 8 passes. */
-    EXPECT(bazintroa_locus_point(none, a4, 4, 1, 5, 3, &gain, poles, &count) == 0);
+    EXPECT(bazintroa_locus_point(b_none, a_none, 1, 1, 2, 1, PLACES) == 0);
+    EXPECT(gain == 1 && count == 0 && zeros(poles, 0) && ended(BAZINTROA_SETTLED, 0));
+    /* z^4 - 1, whose poles are where the search starts, and order 8 passes. */
+    EXPECT(bazintroa_locus_point(none, a4, 4, 1, 5, 3, PLACES) == 0 && ended(BAZINTROA_SETTLED, 1));
     EXPECT(gain == 0.75 && count == 4 && zeros(poles, 4));
     EXPECT(has(poles, 1, 0) && has(poles, -1, 0) && has(poles, 0, 1) && has(poles, 0, -1));
-    EXPECT(bazintroa_locus_point(b1, a1, 8, 1, 2, 0, &gain, poles, &count) == 0 && count == 8);
-    EXPECT(bazintroa_locus_point(b1, a1, 1, NAN, 2, 1, &gain, poles, &count) == 0 && isnan(gain));
+    EXPECT(bazintroa_locus_point(b1, a1, 8, 1, 2, 0, PLACES) == 0 && count == 8);
+    EXPECT(bazintroa_locus_point(b1, a1, 1, NAN, 2, 1, PLACES) == 0 && isnan(gain));
 
-    gain = poles[0] = poles[15] = MARK;
-    count = 99;
-    EXPECT(bazintroa_locus_point(b1, a1, 9, 0, 1, 1, &gain, poles, &count)
-           == BAZINTROA_INSUFFICIENT_POINTS);
-    EXPECT(bazintroa_locus_point(b1, a1, 0, 0, 2, 2, &gain, poles, &count)
-           == BAZINTROA_INVALID_PARAMETER);
-    EXPECT(bazintroa_locus_point(b1, a1, 9, 1, 4097, 0, &gain, poles, &count)
-           == BAZINTROA_INVALID_PARAMETER);
-    EXPECT(bazintroa_locus_point(b1, a1, 0, 1, 4097, 4097, &gain, poles, &count)
-           == BAZINTROA_WRONG_ORDER);
-    EXPECT(bazintroa_locus_point(b1, a3, 3, 1, 4097, 4097, &gain, poles, &count)
-           == BAZINTROA_TOO_MANY);
-    EXPECT(bazintroa_locus_point(b1, a3, 3, 1, 2, 2, &gain, poles, &count) == BAZINTROA_WRONG_INDEX);
-    EXPECT(bazintroa_locus_point(b1, a3, 3, 1, 2, 1, &gain, poles, &count)
-           == BAZINTROA_CUBIC_LEFT_OUT);
+    /* z^4 + 0.25 settles later; 1, -2, 4, 2, 3 settles with two poles at -1, where it is 8. */
+    EXPECT(bazintroa_locus_point(none, a_half, 4, 1, 2, 0, PLACES) == 0 && has(poles, -0.5, 0.5));
+    EXPECT(ending == BAZINTROA_SETTLED && ending_value > 1 && ending_value < 20);
+    EXPECT(bazintroa_locus_point(none, a_met, 4, 1, 2, 0, PLACES) == 0);
+    EXPECT(has(poles, -1, 0) && ended(BAZINTROA_SETTLED, 31));
+    /* A pole still moves in the last round. */
+    EXPECT(bazintroa_locus_point(none, a_spent, 4, 1, 2, 0, PLACES) == 0 && count == 4);
+    EXPECT(ending == BAZINTROA_SPENT && ending_value > 0.05 && ending_value < 0.06);
+    /* NaN by a formula and by a search. Infinite is not NaN. */
+    EXPECT(bazintroa_locus_point(none, a_nan, 1, 1, 2, 0, PLACES) == 0 && isnan(poles[0]));
+    EXPECT(count == 1 && ended(BAZINTROA_BROKEN, 0));
+    EXPECT(bazintroa_locus_point(none, a_huge, 4, 1, 2, 0, PLACES) == 0 && isnan(poles[0]));
+    EXPECT(count == 4 && ended(BAZINTROA_BROKEN, 0));
+    EXPECT(bazintroa_locus_point(none, a_infinite, 1, 1, 2, 0, PLACES) == 0);
+    EXPECT(is(poles, INFINITY, 0) && ended(BAZINTROA_SETTLED, 0));
+
+    gain = poles[0] = poles[15] = ending_value = MARK;
+    count = ending = 99;
+    EXPECT(bazintroa_locus_point(b1, a1, 9, 0, 1, 1, PLACES) == BAZINTROA_INSUFFICIENT_POINTS);
+    EXPECT(bazintroa_locus_point(b1, a1, 0, 0, 2, 2, PLACES) == BAZINTROA_INVALID_PARAMETER);
+    EXPECT(bazintroa_locus_point(b1, a1, 9, 1, 4097, 0, PLACES) == BAZINTROA_INVALID_PARAMETER);
+    EXPECT(bazintroa_locus_point(b1, a1, 0, 1, 4097, 4097, PLACES) == BAZINTROA_WRONG_ORDER);
+    EXPECT(bazintroa_locus_point(b1, a3, 3, 1, 4097, 4097, PLACES) == BAZINTROA_TOO_MANY);
+    EXPECT(bazintroa_locus_point(b1, a3, 3, 1, 2, 2, PLACES) == BAZINTROA_WRONG_INDEX);
+    EXPECT(bazintroa_locus_point(b1, a3, 3, 1, 2, 1, PLACES) == BAZINTROA_CUBIC_LEFT_OUT);
     EXPECT(same(gain, MARK) && same(poles[0], MARK) && same(poles[15], MARK) && count == 99);
+    EXPECT(ended(99, MARK));
 }
 
 static void stability(void) {

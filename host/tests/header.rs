@@ -63,6 +63,12 @@ fn numbers() -> BTreeMap<u32, String> {
     numbers
 }
 
+/// The names for how a search ended, by their numbers.
+fn endings() -> BTreeMap<u32, String> {
+    let names = [(0, "SETTLED"), (1, "SPENT"), (2, "BROKEN")];
+    BTreeMap::from(names.map(|(n, name)| (n, name.to_string())))
+}
+
 /// LengthsDiffer as LENGTHS_DIFFER.
 fn capitals(name: &str) -> String {
     let mut text = String::new();
@@ -81,6 +87,7 @@ fn every_number_has_its_name() {
     macros.retain(|name, _| !name.starts_with("VERSION"));
     let expected = numbers()
         .into_iter()
+        .chain(endings())
         .map(|(number, name)| (name, format!("{number}u")));
     assert_eq!(macros, expected.collect());
 }
@@ -115,6 +122,18 @@ fn every_refusal_of_the_library() {
     assert_eq!(arms.collect::<BTreeMap<u32, String>>(), expected.collect());
 }
 
+/// The library's endings and numbers are the header's.
+#[test]
+fn every_ending_of_the_library() {
+    let source = fs::read_to_string(root().join("crates/root_locus/src/ending.rt")).unwrap();
+    let arms = source.lines().filter_map(|line| {
+        let arm = line.trim().strip_prefix("Ending::")?;
+        let (name, number) = arm.strip_suffix(',')?.split_once(" => ")?;
+        Some((number.parse().ok()?, capitals(name.trim_end_matches("(_)"))))
+    });
+    assert_eq!(arms.collect::<BTreeMap<u32, String>>(), endings());
+}
+
 #[test]
 fn the_version() {
     let macros = macros();
@@ -144,7 +163,7 @@ fn every_name_is_used() {
         let mut pieces = program.split(&name).skip(1);
         pieces.any(|behind| !behind.starts_with(|c: char| c.is_alphanumeric() || c == '_'))
     };
-    let names = numbers().into_values();
+    let names = numbers().into_values().chain(endings().into_values());
     let missing: Vec<String> = names.filter(|name| !is_used(name)).collect();
     assert!(missing.is_empty(), "{PROGRAM} does not use {missing:?}");
 }

@@ -100,35 +100,261 @@ fn degree_3_at_one_gain() {
     ]);
     check_svg(&fs::read_to_string(picture).unwrap());
     assert!(text.contains(
-        "\"gain\": 0.25,\n      \"stable\": null,\n      \"refused\": 12,\n      \"poles\": null\n"
+        "\"gain\": 0.25,\n      \"stable\": null,\n      \"refused\": 12,\n      \"ending\": null,\n      \
+         \"rounds\": null,\n      \"last_change\": null,\n      \"gives_polynomial_back\": null,\n      \
+         \"poles\": null\n"
     ));
 }
 
+/// The text of a locus without its first line, its JSON and its picture.
+fn in_three_forms(name: &str, contents: &str, grid: [&str; 2]) -> (String, String, String) {
+    let path = file(&format!("{name}.txt"), contents);
+    let picture = place(&format!("{name}.svg"));
+    let arguments = ["locus", path.to_str().unwrap(), grid[0], grid[1]];
+    let text = said(arguments);
+    let json = said(
+        arguments
+            .iter()
+            .chain(&["--json", "--svg", picture.to_str().unwrap()]),
+    );
+    let picture = fs::read_to_string(picture).unwrap();
+    check_svg(&picture);
+    (text.split_once('\n').unwrap().1.to_string(), json, picture)
+}
+
+/// What the JSON says of each gain.
+fn gains(json: &str) -> Vec<&str> {
+    json.split("\"gain\": ").skip(1).collect()
+}
+
+/// The words that JSON has of a gain, but for the poles.
+fn of_gain(gain: &str) -> [String; 5] {
+    [
+        "stable",
+        "ending",
+        "rounds",
+        "last_change",
+        "gives_polynomial_back",
+    ]
+    .map(|key| json(gain, key))
+}
+
 #[test]
-fn a_pole_that_is_not_a_number() {
-    let text = locus(
-        "huge.txt",
-        "plant.b = 0 0 0 0 1\nplant.a = -1 1.7e308 -1.7e308\ncontroller.b = 1\n",
-        &["--k-max", "2", "--points", "3"],
+fn poles_that_settled_in_a_wrong_place() {
+    // At gain 1 the polynomial is 1, -2, 4, 2, 3: two poles meet at -1, where it is 8.
+    let (text, json_, picture) = in_three_forms(
+        "met",
+        "plant.b = 0 0 0 1\nplant.a = -2 4 1 3\ncontroller.b = 1\n",
+        ["--k-max=2", "--points=3"],
     );
-    assert!(text.contains("not known    "));
-    assert!(text.contains("A pole is not a number at 3 gains, the first 0: whether the loop is stable there is not known.\n"));
-    let path = file(
-        "huge2.txt",
-        "plant.b = 0 0 0 0 1\nplant.a = -1 1.7e308 -1.7e308\ncontroller.b = 1\n",
+    let lines: Vec<&str> = text.lines().collect();
+    assert_eq!(lines[1], "  gain         outermost    poles");
+    assert_eq!(&lines[2][28..50], "not inside            ");
+    assert_eq!(
+        lines[3],
+        "  1            2.28761      not inside, off 0.427   -1, 1.3376 + 1.8558j, -1, 1.3376 - 1.8558j"
     );
-    let picture = place("huge2.svg");
-    let text = said([
-        "locus",
-        path.to_str().unwrap(),
-        "--k-max=2",
-        "--points=3",
-        "--json",
-        "--svg",
-        picture.to_str().unwrap(),
-    ]);
-    assert!(text.contains("\"NaN\""));
-    check_svg(&fs::read_to_string(picture).unwrap());
+    assert_eq!(&lines[4][28..50], "not inside            ");
+    assert_eq!(
+        lines[6..],
+        [
+            "The first gain at which a pole is not inside the unit circle is 0, where the poles are the open loop's.",
+            "At no gain of this grid are all poles inside.",
+            "The poles do not give the polynomial back at 1 gain, the first 1: multiplied out, they miss a \
+             coefficient by 0.427 of its scale. What is said of such a gain is said of poles of which some \
+             are wrong.",
+        ]
+    );
+    let gains = gains(&json_);
+    for (i, gain) in gains.iter().enumerate() {
+        let [stable, ending, rounds, change, back] = of_gain(gain);
+        assert_eq!((stable.as_str(), ending.as_str()), ("false", "\"settled\""));
+        assert_eq!(rounds == "31", i == 1);
+        assert_eq!((change.as_str(), back == "false"), ("null", i == 1));
+    }
+    assert_eq!(json(&json_, "first_gain_not_inside"), "0.0");
+    assert!(picture.contains("not settled, or off, at 1 gain<"));
+    assert!(!picture.contains("NaN"));
+    // A halo about each of the three places, and one in the legend; the poles of the two other gains, four
+    // each, are points, since no curve goes through what is off.
+    assert_eq!(picture.matches(" r=\"7.50\"").count(), 4);
+    assert_eq!(picture.matches(" r=\"2.2\"").count(), 8);
+}
+
+#[test]
+fn poles_that_were_still_moving() {
+    // At gain 1 the polynomial is 1, 5, -1, 2, 1.
+    let (text, json_, picture) = in_three_forms(
+        "moving",
+        "plant.b = 0 0 0 1\nplant.a = 5 -1 1 1\ncontroller.b = 1\n",
+        ["--k-max=2", "--points=3"],
+    );
+    assert!(text.contains(
+        "\n  1            5.25578      not inside, spent 0.0568, off 1.07   -1, -5.2558, -1, -0.31291\n"
+    ));
+    assert!(text.contains(
+        "\nThe search is spent at 1 gain, the first 1: the last of its 200 rounds still moved a pole by 0.0568. \
+         What is said of such a gain is said of poles that were still moving.\n"
+    ));
+    assert!(text.contains("\nThe poles do not give the polynomial back at 1 gain, the first 1: "));
+    let gains = gains(&json_);
+    assert_eq!(
+        of_gain(gains[1]),
+        ["false", "\"spent\"", "null", "0.05684576108915305", "false"]
+    );
+    for gain in [gains[0], gains[2]] {
+        let [stable, ending, _, change, back] = of_gain(gain);
+        assert_eq!(
+            [stable, ending, change, back],
+            ["false", "\"settled\"", "null", "true"]
+        );
+    }
+    assert!(picture.contains("not settled, or off, at 1 gain<"));
+
+    // Spent at gain 0 and off at gains 1 and 3: the first is named, and the most.
+    let (text, _, picture) = in_three_forms(
+        "both",
+        "plant.b = 0 1.5 -0.5 1\nplant.a = 0.5 -1.5 1 1\ncontroller.b = 1\n",
+        ["--k-max=4", "--points=9"],
+    );
+    assert!(text.contains(
+        "\nThe first gain at which a pole is not inside the unit circle is 0, spent 2.25, off 0.99, where the \
+         poles are the open loop's.\n"
+    ));
+    assert!(text.contains(
+        "The poles do not give the polynomial back at 3 gains, the first 0: multiplied out, they miss a \
+         coefficient by 0.99 of its scale, at another by 1.22. "
+    ));
+    assert!(picture.contains("not settled, or off, at 3 gains<"));
+}
+
+/// The text, and the runs of stable gains in JSON, have no gain that is spent or off. The first gain not
+/// inside may be one.
+#[test]
+fn runs_of_stable_gains_leave_out_what_is_spent_or_off() {
+    // z^6 at gain 0.75: six poles in one place, which the search leaves in a ring about it.
+    let (text, json_, _) = in_three_forms(
+        "ring",
+        "plant.b = 0 0 0 0 -1\nplant.a = 0 0 0 0.75 0 0\ncontroller.b = 1 0\ncontroller.a = 0 0\n",
+        ["--k-max=2", "--points=9"],
+    );
+    assert!(text.contains("\n  0.75         0."));
+    assert!(text.contains(" inside, off 0.00"), "{text}");
+    assert!(
+        text.contains(
+            "\nWithout the gains whose poles are spent or off, all poles are inside from 0 to 0.5 (the next is \
+             0.75) and from 1 to 1.5 (the next is 1.75).\n"
+        ),
+        "{text}"
+    );
+    assert_eq!(json(&json_, "stable_gains"), "[[0.0, 0.5], [1.0, 1.5]]");
+    assert_eq!(json(&json_, "first_gain_not_inside"), "1.75");
+    assert_eq!(json(gains(&json_)[3], "stable"), "true");
+
+    // Two double poles, which the last round still moves.
+    let (text, json_, picture) = in_three_forms(
+        "double",
+        "plant.b = 0 0.1\nplant.a = 0.35 -0.57\ncontroller.b = 1\ncontroller.a = 0.35 -0.57\n",
+        ["--k-max=0.4", "--points=5"],
+    );
+    assert!(text.contains(
+        "\n  0            0.95         inside, spent 2.14e-9   0.6, -0.95, -0.95, 0.6\n"
+    ));
+    assert!(text.contains(
+        "\nWithout the gains whose poles are spent or off, at no gain of this grid are all poles inside.\n"
+    ));
+    assert!(!text.contains("give the polynomial back"));
+    assert_eq!(json(&json_, "stable_gains"), "[]");
+    assert_eq!(json(&json_, "first_gain_not_inside"), "0.1");
+    let [stable, ending, rounds, _, back] = of_gain(gains(&json_)[0]);
+    assert_eq!(
+        [stable, ending, rounds, back],
+        ["true", "\"spent\"", "null", "true"]
+    );
+    assert!(picture.contains("not settled, or off, at 1 gain<"));
+
+    // The first gain not inside is one at which the poles are off: 1, 0, 3, 3.5, 0.5.
+    let (text, json_, _) = in_three_forms(
+        "first",
+        "plant.b = 0 0 3 3.5\nplant.a = 0 0 0 0.5\ncontroller.b = 1\n",
+        ["--k-max=1", "--points=2"],
+    );
+    assert!(text.contains(
+        "\nThe first gain at which a pole is not inside the unit circle is 1, off 0.868; the one before is 0.\n\
+         All poles are inside from 0 to 0 (the next is 1).\n"
+    ));
+    assert_eq!(json(&json_, "first_gain_not_inside"), "1.0");
+}
+
+#[test]
+fn poles_that_are_not_numbers() {
+    // At gain 0 the search is spent; above it overflows.
+    let (text, json_, picture) = in_three_forms(
+        "broken",
+        "plant.b = 0 0 0 1e155\nplant.a = 5 -1 2 1\ncontroller.b = 1\n",
+        ["--k-max=2", "--points=3"],
+    );
+    assert!(
+        text.contains("\n  0            5.25578      not inside, spent 0.0568, off 1.07   -1, ")
+    );
+    assert!(text.contains(
+        "\n  1            NaN          not known, broken                    NaN + NaNj, "
+    ));
+    assert!(text.contains(
+        "\nThe poles are broken at 2 gains, the first 1: a part of one is NaN, and whether the loop is stable \
+         there is not known.\n"
+    ));
+    let gains_ = gains(&json_);
+    for gain in &gains_[1..] {
+        assert_eq!(
+            of_gain(gain),
+            ["null", "\"broken\"", "null", "null", "null"]
+        );
+        assert!(json(gain, "poles").starts_with("[[\"NaN\", \"NaN\"], "));
+    }
+    assert!(picture.contains("not settled, or off, at 3 gains<"));
+    assert!(picture.contains("a pole is NaN, and not drawn, at 2 gains<"));
+    assert_eq!(picture.matches(" r=\"7.50\"").count(), 4);
+
+    // Some poles are numbers, and nothing is known all the same.
+    let (text, json_, picture) = in_three_forms(
+        "huge",
+        "plant.b = 0 0 0 0 1\nplant.a = -1 1.7e308 -1.7e308\ncontroller.b = 1\n",
+        ["--k-max=2", "--points=3"],
+    );
+    assert!(text.contains("\n  0            NaN          not known, broken   1, NaN "));
+    assert!(text.contains("\nThe poles are broken at 3 gains, the first 0: "));
+    assert!(text
+        .contains("At no gain of this grid is a pole known not to be inside the unit circle.\n"));
+    assert_eq!(json(&json_, "first_gain_not_inside"), "null");
+    assert_eq!(json(&json_, "stable_gains"), "[]");
+    for gain in gains(&json_) {
+        assert_eq!(
+            of_gain(gain),
+            ["null", "\"broken\"", "null", "null", "null"]
+        );
+    }
+    assert!(picture.contains("a pole is NaN, and not drawn, at 3 gains<"));
+}
+
+/// A pole too large to multiply out, by a formula and so settled, is not called right.
+#[test]
+fn poles_that_overflow() {
+    let (text, json_, _) = in_three_forms(
+        "infinite",
+        "plant.b = -1\nplant.a = 1e300\ncontroller.b = 1\n",
+        ["--k-max=0.9999999999", "--points=2"],
+    );
+    assert!(
+        text.contains("\n  1            infinite     not inside, off   -infinite\n"),
+        "{text}"
+    );
+    assert!(text.contains("multiplied out, they are too large for numbers. "));
+    let [stable, ending, rounds, _, back] = of_gain(gains(&json_)[1]);
+    assert_eq!(
+        [stable, ending, rounds, back],
+        ["false", "\"settled\"", "0", "false"]
+    );
 }
 
 #[test]
@@ -161,9 +387,9 @@ fn products_too_large_for_a_number() {
     assert!(line.ends_with("a coefficient of plant times controller is too large for a number"));
 }
 
-/// At every gain the poles are roots of the closed loop's polynomial, evaluated here.
+/// At every gain the closed loop's polynomial, evaluated here, vanishes at the poles.
 #[test]
-fn the_poles_are_roots() {
+fn the_polynomial_vanishes_at_the_poles() {
     let text = said(["locus", STEADY, "--k-max", "8", "--points", "33", "--json"]);
     // (1 - 1.55/z + 0.585/z²)(1 - 1/z) and (0.02/z + 0.015/z²)(4.8 - 4.5/z), multiplied out by hand.
     let a = [1.0, -2.55, 2.135, -0.585, 0.0];
@@ -172,6 +398,9 @@ fn the_poles_are_roots() {
     for (i, block) in text.split("\"gain\": ").skip(1).enumerate() {
         let gain: f64 = block.split(',').next().unwrap().parse().unwrap();
         assert_eq!(gain, 8.0 * i as f64 / 32.0);
+        assert_eq!(json(block, "ending"), "\"settled\"");
+        assert!((1.0..=200.0).contains(&json_number(block, "rounds")));
+        assert_eq!(json(block, "gives_polynomial_back"), "true");
         let poles = json(block, "poles");
         let numbers: Vec<f64> = poles
             .split(|c: char| "[], ".contains(c))
@@ -219,5 +448,24 @@ fn a_picture() {
     ] {
         assert!(picture.contains(label), "{label}");
     }
+    assert!(picture.len() < 200_000);
+
+    // Eight poles in one place, or nearly so, at every gain: one mark stands for those that fall together.
+    let path = file(
+        "many.txt",
+        "plant.b = 0 0 0 0 0 0 0 1e-9\nplant.a = 0 0 0 0 0 0 0 0\ncontroller.b = 1\n",
+    );
+    let place = place("many.svg");
+    said([
+        "locus",
+        path.to_str().unwrap(),
+        "--k-max=4",
+        "--points=4096",
+        "--svg",
+        place.to_str().unwrap(),
+    ]);
+    let picture = fs::read_to_string(place).unwrap();
+    check_svg(&picture);
+    assert!(picture.contains("not settled, or off, at 4,096 gains<"));
     assert!(picture.len() < 200_000);
 }

@@ -211,17 +211,24 @@ fn json_has_stable_keys() {
             "closed_loop",
             "stable",
             "refused",
+            "ending",
+            "rounds",
+            "last_change",
+            "gives_polynomial_back",
             "poles",
             "multiplied_by_z",
             "not_decided"
         ]
     );
     assert_eq!(json(&text, "stable"), "true");
+    assert_eq!(json(&text, "ending"), "\"settled\"");
+    assert_eq!(json(&text, "last_change"), "null");
+    assert_eq!(json(&text, "gives_polynomial_back"), "true");
     assert_eq!(json(&text, "not_decided"), "null");
 }
 
 #[test]
-fn whether_the_closed_loop_settles() {
+fn whether_the_closed_loop_is_stable() {
     let closed = |name: &str, contents: &str| {
         let path = file(name, contents);
         let text = said(["loop".as_ref(), path.as_os_str()]);
@@ -232,14 +239,33 @@ fn whether_the_closed_loop_settles() {
         let words = line[19..].trim().to_string();
         // JSON has the same reason where it is not decided, and none where it is.
         let of_json = said(["loop".as_ref(), path.as_os_str(), "--json".as_ref()]);
-        let (stable, why) = match words.split_once(": ").unwrap() {
-            ("stable", _) => ("true", "null".to_string()),
-            ("not stable", _) => ("false", "null".to_string()),
-            ("not decided", why) => ("null", format!("\"{why}\"")),
+        let (verdict, why) = words.split_once(": ").unwrap();
+        let (verdict, of) = verdict
+            .split_once(", of poles that ")
+            .unwrap_or((verdict, ""));
+        let (stable, why) = match verdict {
+            "stable" => ("true", "null".to_string()),
+            "not stable" => ("false", "null".to_string()),
+            "not decided" | "not known" => ("null", format!("\"{why}\"")),
             _ => panic!("{words}"),
         };
         assert_eq!(json(&of_json, "stable"), stable);
         assert_eq!(json(&of_json, "not_decided"), why);
+        // And how the search ended, and whether the poles give the polynomial back.
+        let (moving, off) = (
+            of.contains("were still moving"),
+            of.contains("do not give the polynomial back"),
+        );
+        let (ending, back) = match verdict {
+            "not decided" => ("null", "null"),
+            "not known" => ("\"broken\"", "null"),
+            _ if moving => ("\"spent\"", if off { "false" } else { "true" }),
+            _ => ("\"settled\"", if off { "false" } else { "true" }),
+        };
+        assert_eq!(json(&of_json, "ending"), ending);
+        assert_eq!(json(&of_json, "gives_polynomial_back"), back);
+        assert_eq!(json(&of_json, "rounds") == "null", ending != "\"settled\"");
+        assert_eq!(json(&of_json, "last_change") == "null", !moving);
         (words, text)
     };
     let (said, _) = closed(
@@ -269,7 +295,65 @@ fn whether_the_closed_loop_settles() {
         "nan.txt",
         "plant.b = 0 0 0 0 1\nplant.a = -1 1e150 -1e150\ncontroller.b = 1\n",
     );
-    assert_eq!(said, "not decided: a pole is not a number");
+    assert_eq!(said, "not known: a part of a pole is NaN");
+
+    // Two double poles, which the last round still moves.
+    let (said, text) = closed(
+        "moving.txt",
+        "plant.b = 0 0.5\nplant.a = 0.2 -1.0174999999999998 -0.39899999999999997 0.32489999999999997\n\
+         controller.b = 1\n",
+    );
+    assert_eq!(
+        said,
+        "stable, of poles that were still moving: the outermost pole lies 0.95 from 0"
+    );
+    assert!(text.contains(
+        "\nThe search for the closed loop's poles is spent: the last of its 200 rounds still moved a pole by \
+         2.14e-9.\n"
+    ));
+    // 1, -2, 4, 2, 3, whose poles settle in a wrong place.
+    let (said, text) = closed(
+        "met.txt",
+        "plant.b = 0 0 0 1\nplant.a = -2 4 1 3\ncontroller.b = 1\n",
+    );
+    assert_eq!(
+        said,
+        "not stable, of poles that do not give the polynomial back: the outermost pole lies 2.28761 from 0"
+    );
+    assert!(text.contains(
+        "\nMultiplied out, the closed loop's poles miss a coefficient by 0.427 of its scale: some of them are \
+         wrong.\n"
+    ));
+    // Five poles in one place.
+    let (said, _) = closed(
+        "ring.txt",
+        "plant.b = 0 1\nplant.a = -1 0 0 0 0\ncontroller.b = 1 0 0 0\ncontroller.a = 0 0\n",
+    );
+    assert!(
+        said.starts_with("stable: the outermost pole lies 0"),
+        "{said}"
+    );
+    let (said, _) = closed(
+        "ring5.txt",
+        "plant.b = 0 0 0 0 1\nplant.a = 0 0 0 -1 0\ncontroller.b = 1\n",
+    );
+    assert!(
+        said.starts_with(
+            "stable, of poles that do not give the polynomial back: the outermost pole lies 0.00"
+        ),
+        "{said}"
+    );
+    // 1, 5, -1, 2, 1: both.
+    let (said, text) = closed(
+        "both.txt",
+        "plant.b = 0 0 0 1\nplant.a = 5 -1 1 1\ncontroller.b = 1\n",
+    );
+    assert_eq!(
+        said,
+        "not stable, of poles that were still moving and do not give the polynomial back: the outermost pole \
+         lies 5.25578 from 0"
+    );
+    assert!(text.contains("still moved a pole by 0.0568.\nMultiplied out, "));
 }
 
 #[test]

@@ -5,8 +5,8 @@ use std::io::{self, IsTerminal};
 use std::time::Instant;
 
 use bazintroa::{
-    fill_gain_grid, locus_point, stability_region, Complex, LocusPoint, LoopShaping, Refusal,
-    TransferFn,
+    fill_gain_grid, locus_point, stability_region, Complex, Ending, LocusPoint, LoopShaping,
+    Refusal, TransferFn,
 };
 
 use crate::arguments::{Arguments, Command, FILE};
@@ -15,7 +15,7 @@ use crate::output::{Failure, Output};
 use crate::progress::Progress;
 use crate::sweep::LIMIT;
 use crate::words::{count, counted, listed, number, refused};
-use crate::{locus_plot, loop_file};
+use crate::{locus_plot, loop_file, multiplied_out};
 
 pub const COMMAND: Command = Command {
     name: "locus",
@@ -32,6 +32,15 @@ which a pole is not inside the unit circle. Gain 1 is the loop as the file has i
 Plant and controller are multiplied out; the order of the product is at most 8. Where its numerator
 has as high a power of 1/z as its denominator, the polynomial has one pole more than the loop, at 0.
 A polynomial of degree 3 is refused, with 12.
+
+",
+        ENDINGS,
+        "
+Of poles that are spent or off the table says inside or not inside with these words behind. The runs
+of gains at which all poles are inside, in JSON stable_gains, leave out what is spent or off; the
+first gain at which a pole is not inside does not. In the picture poles that are not settled, or
+off, have a mark of their own and are on no curve, and the legend says at how many gains there are
+such. What is NaN is not drawn.
 
   --k-max K    the largest gain, above 0
   --points N   the number of gains, 2 to 4,096 (101)
@@ -54,59 +63,152 @@ Example:
     run,
 };
 
+/// What there is to know of poles, for the help of the commands that show them.
+pub const ENDINGS: &str = "\
+One pole or two come from formulas, more from a search of at most 200 rounds. It ends
+  settled  with a round that moves no pole by 1e-12 or more, or
+  spent    when the last round still did: the poles were still moving, by the number that is given.
+Poles are
+  broken   where a part of one is NaN: whether the loop is stable is then not known, and
+  off      where they do not give the polynomial back. Settled does not mean right: two poles that
+           meet stay where they met. So the poles are multiplied out, (z - p1)(z - p2).., and
+           compared with the polynomial. The number that is given is the most by which they miss
+           a coefficient, in parts of its scale, which is the same coefficient of
+           (z + |p1|)(z + |p2|).., or 1 where that is less. Above 0.001 they are off. Five poles or
+           more in one place are so too: the search leaves them in a ring about it.
+JSON has ending (settled, spent or broken), the rounds of a settled search, the last_change of a
+spent one, and gives_polynomial_back, which is false for poles that are off.
+";
+
 /// The poles at one gain, or why there are none.
 pub enum Poles {
-    Found(LocusPoint),
+    Found(Found),
     Refused(Refusal),
     /// Why plant times controller could not be multiplied out.
     NoProduct(String),
 }
 
 impl Poles {
-    /// Whether all lie inside the unit circle, where that is known.
-    pub fn stable(&self) -> Option<bool> {
+    pub fn found(&self) -> Option<&Found> {
         match self {
-            Poles::Found(point) if !has_nan(point) => Some(inside(point)),
+            Poles::Found(found) => Some(found),
             _ => None,
         }
     }
 
+    /// Whether all lie inside the unit circle, where that is known.
+    pub fn stable(&self) -> Option<bool> {
+        self.found().and_then(Found::stable)
+    }
+
     pub fn fields(&self) -> Vec<(&'static str, Json)> {
-        let stable = self.stable().map_or(Json::Null, Json::Bool);
-        let (refusal, poles) = match self {
-            Poles::Found(point) => {
-                let poles = counted_poles(point).iter();
-                let poles = poles.map(|pole| Json::numbers(&[pole.re, pole.im]));
-                (Json::Null, Json::List(poles.collect()))
-            }
-            Poles::Refused(refusal) => (Json::Count(refusal.number() as usize), Json::Null),
-            Poles::NoProduct(_) => (Json::Null, Json::Null),
+        let refusal = match self {
+            Poles::Refused(refusal) => Json::Count(refusal.number() as usize),
+            _ => Json::Null,
         };
-        vec![("stable", stable), ("refused", refusal), ("poles", poles)]
+        let truth = |value: Option<bool>| value.map_or(Json::Null, Json::Bool);
+        let word = |text: &str| Json::Text(text.into());
+        let found = self.found();
+        let (ending, rounds, change) = match found.map(|found| found.point.ending) {
+            None => (Json::Null, Json::Null, Json::Null),
+            Some(Ending::Settled(rounds)) => (word("settled"), Json::Count(rounds), Json::Null),
+            Some(Ending::Spent(change)) => (word("spent"), Json::Null, Json::Number(change)),
+            Some(Ending::Broken) => (word("broken"), Json::Null, Json::Null),
+        };
+        let pair = |pole: &Complex| Json::numbers(&[pole.re, pole.im]);
+        let poles = found.map(|found| found.poles().iter().map(pair).collect());
+        vec![
+            ("stable", truth(self.stable())),
+            ("refused", refusal),
+            ("ending", ending),
+            ("rounds", rounds),
+            ("last_change", change),
+            (
+                "gives_polynomial_back",
+                truth(found.and_then(Found::gives_back)),
+            ),
+            ("poles", poles.map_or(Json::Null, Json::List)),
+        ]
     }
 }
 
-pub fn counted_poles(point: &LocusPoint) -> &[Complex] {
-    &point.poles[..point.count]
+/// The poles at one gain, as the library gives them, and what is known of them.
+pub struct Found {
+    point: LocusPoint,
+    /// By how much they miss the polynomial.
+    miss: f64,
 }
 
-pub fn inside(point: &LocusPoint) -> bool {
-    stability_region(&point.poles, point.count)
-}
-
-pub fn has_nan(point: &LocusPoint) -> bool {
-    counted_poles(point)
-        .iter()
-        .any(|pole| pole.re.is_nan() || pole.im.is_nan())
-}
-
-/// The largest distance of a pole from 0, a NaN where a pole is one.
-pub fn outermost(point: &LocusPoint) -> f64 {
-    if has_nan(point) {
-        return f64::NAN;
+impl Found {
+    fn of(tf: &TransferFn, point: LocusPoint) -> Self {
+        let polynomial = multiplied_out::loop_polynomial(tf, point.gain);
+        let miss = multiplied_out::miss(&polynomial, &point.poles[..point.count]);
+        Found { point, miss }
     }
-    let distances = counted_poles(point).iter().map(|pole| pole.magnitude());
-    distances.fold(0.0, f64::max)
+
+    pub fn poles(&self) -> &[Complex] {
+        &self.point.poles[..self.point.count]
+    }
+
+    pub fn is_broken(&self) -> bool {
+        self.point.ending == Ending::Broken
+    }
+
+    /// By how much the last round moved a pole, where the search was spent.
+    pub fn spent(&self) -> Option<f64> {
+        match self.point.ending {
+            Ending::Spent(change) => Some(change),
+            _ => None,
+        }
+    }
+
+    /// By how much they miss the polynomial, where they do not give it back.
+    pub fn off(&self) -> Option<f64> {
+        (self.gives_back() == Some(false)).then_some(self.miss)
+    }
+
+    /// Whether they give the polynomial back. Of broken ones nothing is said.
+    fn gives_back(&self) -> Option<bool> {
+        (!self.is_broken()).then(|| multiplied_out::gives_back(self.miss))
+    }
+
+    /// Whether the search settled, and they give the polynomial back.
+    pub fn is_sound(&self) -> bool {
+        matches!(self.point.ending, Ending::Settled(_)) && self.off().is_none()
+    }
+
+    /// Whether all lie inside the unit circle, where that is known. To the library a NaN is inside.
+    pub fn stable(&self) -> Option<bool> {
+        (!self.is_broken()).then(|| stability_region(&self.point.poles, self.point.count))
+    }
+
+    /// The largest distance of a pole from 0, a NaN where a pole is one.
+    pub fn outermost(&self) -> f64 {
+        if self.is_broken() {
+            return f64::NAN;
+        }
+        let distances = self.poles().iter().map(|pole| pole.magnitude());
+        distances.fold(0.0, f64::max)
+    }
+
+    /// What is to be remarked, each behind a comma.
+    fn remarks(&self) -> String {
+        let mut text = String::new();
+        if self.is_broken() {
+            text.push_str(", broken");
+        }
+        if let Some(change) = self.spent() {
+            let _ = write!(text, ", spent {}", number(change, 3));
+        }
+        match self.off() {
+            Some(miss) if miss.is_finite() => {
+                let _ = write!(text, ", off {}", number(miss, 3));
+            }
+            Some(_) => text.push_str(", off"),
+            None => {}
+        }
+        text
+    }
 }
 
 /// The poles of the loop as it is written, and whether the polynomial was multiplied by z: where it
@@ -127,7 +229,7 @@ pub fn at_gain_1(shaping: &LoopShaping) -> (Poles, bool) {
 
 fn point(tf: &TransferFn, k_max: f64, n: usize, i: usize) -> Poles {
     match locus_point(tf, k_max, n, i) {
-        Ok(point) => Poles::Found(point),
+        Ok(point) => Poles::Found(Found::of(tf, point)),
         Err(refusal) => Poles::Refused(refusal),
     }
 }
@@ -239,11 +341,12 @@ impl Report<'_> {
             .or(self.first_not_inside())
     }
 
-    /// The first and the last place of each run of gains at which all poles are inside.
+    /// The first and the last place of each run of gains at which all poles are inside, with nothing to
+    /// be remarked on them.
     fn stable_runs(&self) -> Vec<(usize, usize)> {
         let mut runs: Vec<(usize, usize)> = Vec::new();
         for (i, poles) in self.locus.iter().enumerate() {
-            if poles.stable() == Some(true) {
+            if poles.stable() == Some(true) && poles.found().is_some_and(Found::is_sound) {
                 match runs.last_mut() {
                     Some(run) if run.1 + 1 == i => run.1 = i,
                     _ => runs.push((i, i)),
@@ -279,21 +382,21 @@ impl Report<'_> {
         );
         text.truncate(text.trim_end().len());
         text.push('\n');
-        for (gain, poles) in self.gains.iter().zip(self.locus) {
-            let (outermost, state, list) = match poles {
-                Poles::Found(point) => {
-                    let list: Vec<String> = counted_poles(point).iter().map(complex).collect();
-                    let state = match poles.stable() {
-                        Some(true) => "inside",
-                        Some(false) => "not inside",
-                        None => "not known",
-                    };
-                    (number(self::outermost(point), 6), state, list.join(", "))
+        let states: Vec<String> = self.locus.iter().map(state).collect();
+        let width = states
+            .iter()
+            .map(|state| state.len() + 2)
+            .fold(12, usize::max);
+        for ((gain, poles), state) in self.gains.iter().zip(self.locus).zip(states) {
+            let (outermost, list) = match poles.found() {
+                Some(found) => {
+                    let list: Vec<String> = found.poles().iter().map(complex).collect();
+                    (number(found.outermost(), 6), list.join(", "))
                 }
-                _ => ("".into(), "refused", "degree 3".into()),
+                None => ("".into(), "degree 3".into()),
             };
             let line = format!(
-                "  {:<12} {outermost:<12} {state:<12} {list}",
+                "  {:<12} {outermost:<12} {state:<width$} {list}",
                 number(*gain, 6)
             );
             let _ = writeln!(text, "{}", line.trim_end());
@@ -301,17 +404,28 @@ impl Report<'_> {
         text
     }
 
+    /// The places at which the poles have a number of a kind, each with its number.
+    fn with(&self, of: fn(&Found) -> Option<f64>) -> Vec<(usize, f64)> {
+        let all = self.locus.iter().enumerate();
+        all.filter_map(|(i, poles)| Some((i, of(poles.found()?)?)))
+            .collect()
+    }
+
     fn notes(&self, added: usize) -> Vec<String> {
         let gain = |i: usize| number(self.gains[i], 6);
+        let remarks = |i: usize| self.locus[i].found().map_or("".into(), Found::remarks);
         let mut notes = Vec::new();
         notes.push(match self.first_not_inside() {
             None => "At no gain of this grid is a pole known not to be inside the unit circle.".into(),
-            Some(0) => "The first gain at which a pole is not inside the unit circle is 0, where the poles \
-                        are the open loop's."
-                .into(),
+            Some(0) => format!(
+                "The first gain at which a pole is not inside the unit circle is 0{}, where the poles are the \
+                 open loop's.",
+                remarks(0)
+            ),
             Some(i) => format!(
-                "The first gain at which a pole is not inside the unit circle is {}; the one before is {}.",
+                "The first gain at which a pole is not inside the unit circle is {}{}; the one before is {}.",
                 gain(i),
+                remarks(i),
                 gain(i - 1)
             ),
         });
@@ -329,36 +443,58 @@ impl Report<'_> {
                 None => format!("from {} to {}", gain(i), gain(j)),
             })
             .collect();
-        notes.push(match runs.len() {
-            0 => "At no gain of this grid are all poles inside.".into(),
-            1..=6 => format!("All poles are inside {}.", listed(&spoken)),
+        let inside = match runs.len() {
+            0 => "at no gain of this grid are all poles inside.".into(),
+            1..=6 => format!("all poles are inside {}.", listed(&spoken)),
             n => format!(
-                "All poles are inside in {} runs of gains, first {}.",
+                "all poles are inside in {} runs of gains, first {}.",
                 count(n),
                 spoken[0]
             ),
-        });
-        let with = |test: fn(&Poles) -> bool| {
-            let places = self
-                .locus
-                .iter()
-                .enumerate()
-                .filter(|(_, poles)| test(poles));
-            places.map(|(i, _)| i).collect::<Vec<usize>>()
         };
-        let nan = with(|poles| matches!(poles, Poles::Found(point) if has_nan(point)));
-        if let Some(&first) = nan.first() {
+        let left_out = |found: &Found| found.stable() == Some(true) && !found.is_sound();
+        let some_left_out = self.locus.iter().filter_map(Poles::found).any(left_out);
+        notes.push(match some_left_out {
+            true => format!("Without the gains whose poles are spent or off, {inside}"),
+            false => inside.replacen('a', "A", 1),
+        });
+        let spent = self.with(Found::spent);
+        if let Some(&(first, change)) = spent.first() {
             notes.push(format!(
-                "A pole is not a number at {}, the first {}: whether the loop is stable there is not known.",
-                counted(nan.len(), "gain"),
+                "The search is spent at {}, the first {}: the last of its 200 rounds still moved a pole by {}{}. \
+                 What is said of such a gain is said of poles that were still moving.",
+                counted(spent.len(), "gain"),
+                gain(first),
+                number(change, 3),
+                at_most(&spent)
+            ));
+        }
+        let off = self.with(Found::off);
+        if let Some(&(first, miss)) = off.first() {
+            notes.push(format!(
+                "The poles do not give the polynomial back at {}, the first {}: multiplied out, they {}{}. What \
+                 is said of such a gain is said of poles of which some are wrong.",
+                counted(off.len(), "gain"),
+                gain(first),
+                missed(miss),
+                at_most(&off)
+            ));
+        }
+        let broken = self.with(|found| found.is_broken().then_some(f64::NAN));
+        if let Some(&(first, _)) = broken.first() {
+            notes.push(format!(
+                "The poles are broken at {}, the first {}: a part of one is NaN, and whether the loop is stable \
+                 there is not known.",
+                counted(broken.len(), "gain"),
                 gain(first)
             ));
         }
-        let cubic = with(|poles| matches!(poles, Poles::Refused(_)));
-        if let Some(&first) = cubic.first() {
+        let is_refused = |poles: &Poles| matches!(poles, Poles::Refused(_));
+        if let Some(first) = self.locus.iter().position(is_refused) {
+            let all = self.locus.iter().filter(|poles| is_refused(poles)).count();
             notes.push(format!(
                 "At {}, the first {}, the poles are {}.",
-                counted(cubic.len(), "gain"),
+                counted(all, "gain"),
                 gain(first),
                 refused(Refusal::CubicLeftOut)
             ));
@@ -373,6 +509,38 @@ impl Report<'_> {
             )),
         }
         notes
+    }
+}
+
+/// What the table says of the poles at a gain.
+fn state(poles: &Poles) -> String {
+    let Some(found) = poles.found() else {
+        return "refused".into();
+    };
+    let verdict = match found.stable() {
+        Some(true) => "inside",
+        Some(false) => "not inside",
+        None => "not known",
+    };
+    format!("{verdict}{}", found.remarks())
+}
+
+/// What poles that are off do when they are multiplied out.
+pub fn missed(miss: f64) -> String {
+    if miss.is_finite() {
+        format!("miss a coefficient by {} of its scale", number(miss, 3))
+    } else {
+        "are too large for numbers".into()
+    }
+}
+
+/// The largest of the numbers, where it is not the first.
+fn at_most(places: &[(usize, f64)]) -> String {
+    let most = places.iter().map(|place| place.1).fold(0.0, f64::max);
+    if most > places[0].1 {
+        format!(", at another by {}", number(most, 3))
+    } else {
+        "".into()
     }
 }
 

@@ -5,17 +5,17 @@ use std::fmt::Write;
 
 use bazintroa::{
     bandwidth, distance_to_critical, fill_frequency_grid, pairs, sensitivity_crossover, Complex,
-    LocusPoint, LoopShaping, Refusal,
+    LoopShaping, Refusal,
 };
 
 use crate::arguments::{Arguments, Command, FILE};
 use crate::json::Json;
-use crate::locus::{self, Poles};
+use crate::locus::{self, Found, Poles};
 use crate::loop_plot;
 use crate::margins::{table, Margins, Row};
 use crate::output::{Failure, Output};
 use crate::sweep::{Sweep, LIMIT};
-use crate::words::{count, counted, number, refused};
+use crate::words::{count, counted, listed, number, refused};
 use crate::{loop_file, words};
 
 pub const COMMAND: Command = Command {
@@ -32,7 +32,13 @@ frequencies: the loop gain L = P·C, S = 1/(1 + L), T = L/(1 + L) and Q = C/(1 +
         loop_file::FORM,
         "
 The phase is wrapped, from -180 to 180 degrees. A frequency where L is 0, infinite or NaN, or where
-a denominator vanishes, is left out.
+a denominator vanishes, is left out. The closed loop is stable if all its poles are inside the unit
+circle.
+
+",
+        locus::ENDINGS,
+        "
+Of poles that are spent or off the verdict is given, and says that it is of such.
 
   --points N     readings of the grid, 2 to 4,096 (4,096)
   --omega-min W  lowest frequency in radians per sample (0.001)
@@ -271,6 +277,9 @@ fn run(arguments: &Arguments) -> Result<Output, Failure> {
     for note in margins.notes(sweep) {
         let _ = writeln!(text, "{note}");
     }
+    for note in closed.notes() {
+        let _ = writeln!(text, "{note}");
+    }
     if multiplied {
         text.push_str(
             "The closed loop's polynomial is of degree 3, which is refused with 12: it was multiplied by z.\n",
@@ -305,28 +314,59 @@ fn run(arguments: &Arguments) -> Result<Output, Failure> {
 }
 
 impl Poles {
-    /// The poles that decide whether the loop as written settles, or why it is not decided.
-    fn decided(&self) -> Result<&LocusPoint, String> {
+    /// The poles of the loop as written and whether it is stable, or why that is not decided.
+    fn decided(&self) -> Result<(&Found, bool), String> {
         match self {
             Poles::NoProduct(why) => Err(why.clone()),
             Poles::Refused(refusal) => Err(format!("its poles are {}", words::refused(*refusal))),
-            Poles::Found(point) if locus::has_nan(point) => Err("a pole is not a number".into()),
-            Poles::Found(point) => Ok(point),
+            Poles::Found(found) => match found.stable() {
+                Some(stable) => Ok((found, stable)),
+                None => Err("a part of a pole is NaN".into()),
+            },
         }
     }
 
-    /// Whether the loop as written settles.
+    /// Whether the loop as written is stable.
     fn in_words(&self) -> String {
-        match self.decided() {
-            Err(why) => format!("not decided: {why}"),
-            Ok(point) => {
-                let outermost = number(locus::outermost(point), 6);
-                if locus::inside(point) {
-                    format!("stable: the outermost pole lies {outermost} from 0")
-                } else {
-                    format!("not stable: the outermost pole lies {outermost} from 0")
+        match (self, self.decided()) {
+            (Poles::Found(_), Err(why)) => format!("not known: {why}"),
+            (_, Err(why)) => format!("not decided: {why}"),
+            (_, Ok((found, stable))) => {
+                let mut of: Vec<String> = Vec::new();
+                if found.spent().is_some() {
+                    of.push("were still moving".into());
                 }
+                if found.off().is_some() {
+                    of.push("do not give the polynomial back".into());
+                }
+                let of = match &of[..] {
+                    [] => "".into(),
+                    of => format!(", of poles that {}", listed(of)),
+                };
+                format!(
+                    "{}{of}: the outermost pole lies {} from 0",
+                    if stable { "stable" } else { "not stable" },
+                    number(found.outermost(), 6)
+                )
             }
         }
+    }
+
+    /// What is to be remarked on the poles.
+    fn notes(&self) -> Vec<String> {
+        let found = self.found();
+        let spent = found.and_then(Found::spent).map(|change| {
+            format!(
+                "The search for the closed loop's poles is spent: the last of its 200 rounds still moved a pole by {}.",
+                number(change, 3)
+            )
+        });
+        let off = found.and_then(Found::off).map(|miss| {
+            format!(
+                "Multiplied out, the closed loop's poles {}: some of them are wrong.",
+                locus::missed(miss)
+            )
+        });
+        spent.into_iter().chain(off).collect()
     }
 }

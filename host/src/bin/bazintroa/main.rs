@@ -11,6 +11,7 @@ mod loop_command;
 mod loop_file;
 mod loop_plot;
 mod margins;
+mod multiplied_out;
 mod output;
 mod progress;
 mod svg;

@@ -26,10 +26,14 @@ const FAINT: Pen = Pen::new("#eeeeee", 0.8, "");
 /// What stands before a text in the legend, and at a place of a plot.
 #[derive(Clone, Copy)]
 pub enum Mark {
+    /// For a line of the legend that says what is not there.
+    Nothing,
     Line(Pen),
     Point(&'static str),
     Dot(&'static str),
     Ring(&'static str),
+    /// A ring about any other mark.
+    Halo(&'static str),
     Cross(&'static str),
     Box(&'static str),
 }
@@ -91,10 +95,12 @@ impl Svg {
 
     pub fn mark(&mut self, (x, y): (f64, f64), mark: Mark) {
         match mark {
+            Mark::Nothing => {}
             Mark::Line(pen) => self.line((x - 14.0, y), (x + 14.0, y), pen),
             Mark::Point(color) => self.disc((x, y), 2.2, color),
             Mark::Dot(color) => self.disc((x, y), 4.0, color),
             Mark::Ring(color) => self.circle((x, y), 4.0, Pen::new(color, 1.6, "")),
+            Mark::Halo(color) => self.circle((x, y), 7.5, Pen::new(color, 1.6, "")),
             Mark::Cross(color) => {
                 let pen = Pen::new(color, 1.8, "");
                 self.line((x - 4.0, y - 4.0), (x + 4.0, y + 4.0), pen);

@@ -97,14 +97,46 @@ fn point(random: &mut Random, b: &[f64; 8], a: &[f64; 8], order: usize) {
     let (k_max, n, i) = (number(random), whole(random), whole(random));
     let (mut gain, mut poles) = (place(), Box::new([f64::from_bits(MARK); 16]));
     let mut count = Box::new(MARK as usize);
-    let answered =
-        exported::locus_point(b, a, order, k_max, n, i, &mut gain, &mut poles, &mut count);
+    let (mut ending, mut ending_value) = (Box::new(MARK as u32), place());
+    let answered = exported::locus_point(
+        b,
+        a,
+        order,
+        k_max,
+        n,
+        i,
+        &mut gain,
+        &mut poles,
+        &mut count,
+        &mut ending,
+        &mut ending_value,
+    );
     check(answered, &[*gain]);
     check(answered, &*poles);
+    check(answered, &[*ending_value]);
     let counted = match answered {
         0 => *count <= 8,
         _ => *count == MARK as usize,
     };
     assert!(counted, "{answered} was answered, and the count is {count}");
+    let ended = match answered {
+        0 => ended(*ending, *ending_value, &poles[..2 * *count]),
+        _ => *ending == MARK as u32,
+    };
+    assert!(
+        ended,
+        "{answered} was answered, and the ending is {ending} with {ending_value}"
+    );
     exported::stability_region(&poles, whole(random));
+}
+
+/// Whether an ending is one that poles of these parts can have.
+fn ended(ending: u32, value: f64, parts: &[f64]) -> bool {
+    let broken = parts.iter().any(|part| part.is_nan());
+    match ending {
+        0 => !broken && value.fract() == 0.0 && (0.0..=200.0).contains(&value),
+        1 => !broken && value >= 1e-12,
+        2 => broken && value == 0.0,
+        _ => false,
+    }
 }
