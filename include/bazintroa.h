@@ -192,9 +192,10 @@ uint32_t bazintroa_fill_frequency_grid(double omega_max, size_t n, double *list,
  *     BAZINTROA_SETTLED  the round, 1 to 200, that moved no pole by 1e-12 or more; 0 without a search
  *     BAZINTROA_SPENT    the largest move of the last of 200 rounds, 1e-12 or more
  *     BAZINTROA_BROKEN   0; a part of a pole is NaN, which comes before the others
- * Settled does not mean right. Two poles that meet have a difference of 0, are skipped from then on
- * and add no change: order 4, b 0, a (-2, 4, 2, 3) is settled in round 31 with (-1, 0) twice, where
- * the polynomial 1, -2, 4, 2, 3 is 8. Multiplied out, right poles give the polynomial back.
+ * Settled does not mean right. Two poles that meet have denominators too small to divide by, are
+ * skipped from then on and add no change: order 4, b 0, a (-2, 4, 2, 3) is settled in round 31 with
+ * (-1, 0) twice, to within 1e-15, where the polynomial 1, -2, 4, 2, 3 is 8. Multiplied out, right
+ * poles give the polynomial back.
  *
  * All five places are written on 0; a refused call writes none. */
 uint32_t bazintroa_locus_point(const double b[8], const double a[8], size_t order, double k_max,

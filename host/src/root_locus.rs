@@ -7,9 +7,9 @@ use std::{array, fmt};
 /// How the search for the poles of a point ended. Broken comes first: where a part of a pole is NaN
 /// nothing else is said.
 ///
-/// **Settled does not mean right.** Two poles that meet have a difference of 0, so both are skipped
-/// from then on and add no change, wherever they are. The search settles around them, and its ending
-/// cannot tell. The Rust has the same poles:
+/// **Settled does not mean right.** Two poles that meet have denominators too small to divide by, so
+/// both are skipped from then on and add no change, wherever they are. The search settles around
+/// them, and its ending cannot tell. The Rust has the same poles:
 ///
 /// ```
 /// use bazintroa::{locus_point, Complex, Ending, Refusal, TransferFn};

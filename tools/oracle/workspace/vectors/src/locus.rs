@@ -434,7 +434,7 @@ fn place(random: &mut Random) -> (u64, u64) {
     (n, random.pick(&[0, n - 1, any, any, any]))
 }
 
-/// Kinds of coefficients, above all those with which the search converges.
+/// Kinds of coefficients, above all those with which the search settles.
 pub const KINDS: [Kind; 9] = [
     stable,
     stable,
