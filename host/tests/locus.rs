@@ -159,7 +159,7 @@ fn poles_that_settled_in_a_wrong_place() {
         lines[6..],
         [
             "The first gain at which a pole is not inside the unit circle is 0, where the poles are the open loop's.",
-            "At no gain of this grid are all poles inside.",
+            "At no gain of this grid are all poles known to be inside.",
             "The poles do not give the polynomial back at 1 gain, the first 1: multiplied out, they miss a \
              coefficient by 0.427 of its scale. What is said of such a gain is said of poles of which some \
              are wrong.",
@@ -261,7 +261,7 @@ fn runs_of_stable_gains_leave_out_what_is_spent_or_off() {
         "\n  0            0.95         inside, spent 2.14e-9   0.6, -0.95, -0.95, 0.6\n"
     ));
     assert!(text.contains(
-        "\nWithout the gains whose poles are spent or off, at no gain of this grid are all poles inside.\n"
+        "\nWithout the gains whose poles are spent or off, at no gain of this grid are all poles known to be inside.\n"
     ));
     assert!(!text.contains("give the polynomial back"));
     assert_eq!(json(&json_, "stable_gains"), "[]");

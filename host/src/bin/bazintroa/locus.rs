@@ -444,7 +444,7 @@ impl Report<'_> {
             })
             .collect();
         let inside = match runs.len() {
-            0 => "at no gain of this grid are all poles inside.".into(),
+            0 => "at no gain of this grid are all poles known to be inside.".into(),
             1..=6 => format!("all poles are inside {}.", listed(&spoken)),
             n => format!(
                 "all poles are inside in {} runs of gains, first {}.",
