@@ -67,12 +67,14 @@ either-else false h k i = k i
 -- Broken exactly where some part of a pole is NaN. Rounds and formulas alone never end so.
 pub ending-broken : (p : List Float) → (endingByDegree p ≡ Broken → NanIn (byDegree p)) × (NanIn (byDegree p) → endingByDegree p ≡ Broken)
 unfolding endingByDegree unlessNan searchEnd endOf
-ending-broken p = (λ h. nan-found (byDegree p) (go (someNan (byDegree p)) h), λ n. rw (nan-seen (byDegree p) n))
+ending-broken p = (
+  λ h. nan-found (byDegree p) (go (someNan (byDegree p)) (either-else (ltb (degreeOf p) 4) settled-else (either-else (lt (searchRun p .last) tolerance) settled-else spent-else)) h),
+  λ n. rw (nan-seen (byDegree p) n),
+)
   where
-    go : (b : Bool) → cond b Broken (cond (ltb (degreeOf p) 4) (Settled 0) (cond (lt (searchRun p .last) tolerance) (Settled (searchRun p .used)) (Spent (searchRun p .last)))) ≡ Broken
-        → b ≡ true
-    go true h = refl
-    go false h = absurd (either-else (ltb (degreeOf p) 4) settled-else (either-else (lt (searchRun p .last) tolerance) settled-else spent-else) h)
+    go : (b : Bool) {e : Ending} → (e ≡ Broken → ⊥) → cond b Broken e ≡ Broken → b ≡ true
+    go true k h = refl
+    go false k h = absurd (k h)
 
 -- ---- what up to n + 1 rounds from s on leave: m + 1 rounds ran, none before the last was below, and the last one was, or n + 1 had run
 pub record Ran (norm : List Float) (n : ℕ) (s r : Run) : Type 0 where
