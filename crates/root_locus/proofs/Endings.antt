@@ -60,6 +60,9 @@ settled-else h = let i : _≡_ {A = ℕ} 0 1 = cc in absurd (omega arith)
 spent-else : {c : Float} → Spent c ≡ Broken → ⊥
 spent-else h = let i : _≡_ {A = ℕ} 0 1 = cc in absurd (omega arith)
 
+spent-not : {c : Float} {k : ℕ} → Spent c ≡ Settled k → ⊥
+spent-not h = let i : _≡_ {A = ℕ} 0 1 = cc in absurd (omega arith)
+
 either-else : (b : Bool) {e f : Ending} → (e ≡ Broken → ⊥) → (f ≡ Broken → ⊥) → cond b e f ≡ Broken → ⊥
 either-else true h k i = h i
 either-else false h k i = k i
@@ -178,12 +181,13 @@ module _ (p : List Float) where
   -- Settled with 0 rounds exactly where no search is needed; else the search settled.
   pub ending-settled : {k : ℕ} → endingByDegree p ≡ Settled k → ((degreeOf p < 4) × (k ≡ 0)) ⊎ ((4 ≤ degreeOf p) × SettledIn k)
   unfolding searchEnd endOf
-  ending-settled {k} h = go (ltb (degreeOf p) 4) (lt (searchRun p .last) tolerance) refl refl (ending-else settled-else h)
+  ending-settled {k} h = go (ltb (degreeOf p) 4) (lt (searchRun p .last) tolerance) refl refl spent-not (ending-else settled-else h)
     where
-      go : (a b : Bool) → ltb (degreeOf p) 4 ≡ a → lt (searchRun p .last) tolerance ≡ b → cond a (Settled 0) (cond b (Settled (searchRun p .used)) (Spent (searchRun p .last))) ≡ Settled k
+      go : (a b : Bool) {e : Ending} → ltb (degreeOf p) 4 ≡ a → lt (searchRun p .last) tolerance ≡ b → (e ≡ Settled k → ⊥)
+          → cond a (Settled 0) (cond b (Settled (searchRun p .used)) e) ≡ Settled k
           → ((degreeOf p < 4) × (k ≡ 0)) ⊎ ((4 ≤ degreeOf p) × SettledIn k)
-      go true b e f h = let i : 0 ≡ k = cc in inl (ltb-true (degreeOf p) 4 e, sym i)
-      go false true e f h =
+      go true b e f n h = let i : 0 ≡ k = cc in inl (ltb-true (degreeOf p) 4 e, sym i)
+      go false true e f s h =
           let i : searchRun p .used ≡ k = cc in
           let r = search-ran in
           let l : 4 ≤ degreeOf p = ltb-false (degreeOf p) 4 e in
@@ -199,7 +203,7 @@ module _ (p : List Float) where
               going = λ j q. r .going j (rw m at q);
             },
           )
-      go false false e f h = let i : _≡_ {A = ℕ} 0 1 = cc in absurd (omega arith)
+      go false false e f n h = absurd (n h)
 
   -- Spent: 200 rounds of the search ran, and the last change is not below the tolerance.
   pub ending-spent : {c : Float} → endingByDegree p ≡ Spent c → (4 ≤ degreeOf p) × SpentWith c
