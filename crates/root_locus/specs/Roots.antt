@@ -80,6 +80,7 @@ unfoldable pub searchEnd : List Float → Ending
 searchEnd p = endOf (searchRun p .used) (searchRun p .last)
 
 -- How the search for the roots of `byDegree` ended: broken comes first; settled with 0 rounds by the formulas or where there is no root; else as its rounds did.
+-- Where the rounds end is all that this says: what settled need not be a root.
 unfoldable pub endingByDegree : List Float → Ending
 endingByDegree p = unlessNan (byDegree p) (cond (ltb (degreeOf p) 4) (Settled 0) (searchEnd p))
 
