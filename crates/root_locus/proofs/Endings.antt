@@ -205,7 +205,7 @@ module _ (p : List Float) where
           )
       go false false e f n h = absurd (n h)
 
-  -- Spent: 200 rounds of the search ran, and the last change is not below the tolerance.
+  -- Spent: none of 200 rounds of the search was below the tolerance, and so neither is the change that is told.
   pub ending-spent : {c : Float} → endingByDegree p ≡ Spent c → (4 ≤ degreeOf p) × SpentWith c
   unfolding searchEnd endOf
   ending-spent {c} h = go (ltb (degreeOf p) 4) (lt (searchRun p .last) tolerance) refl refl (ending-else spent-else h)
@@ -231,6 +231,9 @@ module _ (p : List Float) where
           either : (j : ℕ) (b : Bool) → ltb j 199 ≡ b → j < 200 → (j < search-ran .m → below j ≡ false) → search-ran .m ≡ 199 → below 199 ≡ false → below j ≡ false
           either j true e q before m at-last = let l = ltb-true j 199 e in before (omega arith)
           either j false e q before m at-last = let k : j ≡ 199 = omega (arith, ltb-false j 199 e) in rw k at-last
+
+  pub spent-not-below : {c : Float} → endingByDegree p ≡ Spent c → lt c tolerance ≡ false
+  spent-not-below h = let s = ending-spent h .1 in rw (s .last) (s .going 199 (omega arith))
 
   -- ---- and the other way: without a NaN the ending is what the degree and the rounds say
   module _ (numbers : NanIn (byDegree p) → ⊥) where

@@ -9,7 +9,7 @@ use borrow.Author.Tests.{eqb-true, eqb-false, ne-eqb}
 use lib.Dec.{eqb}
 use lib.ListN.{length, getD, take, replicate, length-take, getD-replicate}
 use lib.Seq.{getD-take, getD-append-add, take-at}
-use lib.Ieee.{Float, le}
+use lib.Ieee.{Float, le, lt}
 use Rattle.laws.proofs.Loops.{length-upTo}
 use Rattle.scalar.specs.Scalar.{f0, f1}
 use Rattle.complex.specs.declared.Complex.{Complex}
@@ -19,16 +19,16 @@ use Rattle.sweep.proofs.Numbers.{check-known}
 use Rattle.transfer_fn.specs.declared.TransferFn.{TransferFn}
 use Rattle.root_locus.specs.declared.LocusPoint.{LocusPoint}
 use Rattle.root_locus.specs.declared.ending.Ending.{Ending}
-use Rattle.root_locus.specs.declared.ending.Ending.the-variants.{Settled, Broken}
+use Rattle.root_locus.specs.declared.ending.Ending.the-variants.{Settled, Spent, Broken}
 use Rattle.root_locus.specs.Gain.{gainAt}
 use Rattle.root_locus.specs.Polynomial.{loopPolynomial, counting, degreeOf}
-use Rattle.root_locus.specs.Search.{nowhere}
+use Rattle.root_locus.specs.Search.{tolerance, nowhere}
 use Rattle.root_locus.specs.Roots.{linear, discriminant, realPair, complexPair, quadratic, quotientAt, monic, searched, byDegree, endingByDegree, padded}
 use Rattle.root_locus.specs.Stability.{outside, noneOutside, stable}
 use Rattle.root_locus.specs.Locus.{locusRefusal, Point, pointOf, foundPoint, noPoint, pointAt, locusPointAt}
 use Rattle.root_locus.proofs.Padding.{search-long}
 use Rattle.root_locus.proofs.Conditions.{not-cubic}
-use Rattle.root_locus.proofs.Endings.{NanIn, ending-broken, SettledIn, ending-settled}
+use Rattle.root_locus.proofs.Endings.{NanIn, ending-broken, SettledIn, ending-settled, spent-not-below}
 
 -- ---- stable: no counted pole has squared magnitude ≥ 1
 
@@ -140,6 +140,10 @@ module _ (tf : TransferFn) (k-max : Float) (n i : ℕ) where
 
       rounds : (4 ≤ degreeOf left) × SettledIn left k → (k ≤ 200) × ((k ≡ 0 → degreeOf left ≤ 2) × (degreeOf left ≤ 2 → k ≡ 0))
       rounds w = (w .1 .most, (λ z. absurd (omega (arith, w .1 .least)), λ l. absurd (omega (arith, w .0))))
+
+  -- a spent one: a change that is not below the tolerance
+  pub point-spent : {c : Float} → refusal ≡ 0 → locusPointAt tf k-max n i .ending ≡ Spent c → lt c tolerance ≡ false
+  point-spent h e = spent-not-below left (sym (point-ending h) ∙ e)
 
   -- one that is turned away is its number alone
   pub point-refused-alone : 0 < refusal → locusPointAt tf k-max n i ≡ noPoint refusal
