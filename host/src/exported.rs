@@ -338,7 +338,7 @@ mod tests {
         assert_eq!((ending, ending_value.to_bits()), (0, 0));
         let (number, .., count, ending, ending_value) = asked(&[-2.0, 4.0, 2.0, 3.0]);
         assert_eq!((number, count, ending, ending_value), (0, 4, 0, 31.0));
-        // The last of 200 rounds still moves a pole.
+        // The last of 200 rounds still moves a pole, by as much as in a copy of the Rust's loop in Python.
         let (number, .., count, ending, ending_value) = asked(&[5.0, -1.0, 2.0, 1.0]);
         assert_eq!((number, count, ending), (0, 4, 1));
         assert_eq!(ending_value, 0.05684576108915305);

@@ -9,7 +9,8 @@ use native.Mathlib.Omega.{arith}
 use borrow.Author.Tests.{ltb-false, le-ltb}
 use lib.IntN.{ℤ}
 use lib.Dec.{T, ltb, eqb, eqb-refl, eqb→eq, ltb→lt, lt→ltb}
-use lib.Ieee.{Float, nan, inf, fin, Format, prec, low, hid, up, down, size, below, level, lt, eq, le, fits, toBits, ofBits}
+use lib.Ieee.{Float, nan, inf, fin, Format, prec, low, hid, up, down, size, below, level, lt, eq, le, ne, isNan, fits, toBits, ofBits}
+use lib.Ieee.Compare.{differs-from-itself}
 use lib.Ieee.Fits.{down-pos, and-l, and-r}
 use lib.Ieee.Scale.{finite}
 use lib.Ieee.Nearest.{div-same}
@@ -304,3 +305,15 @@ le-antisym f (fin false m e) (inf false) p q a h k = absurd (unfold le in k)
 le-antisym f (fin false m e) (fin true n d) p q a h k = absurd (above-of-le (fin false m e) (fin true n d) a h)
 le-antisym f (fin false m e) (fin false n d) p q a h k =
     sym (ofBits-toBits f (fin false m e) p) ∙ ap (ofBits f) (same-bits f m e n d (le-antisymm (at-most m e n d h) (at-most n d m e k))) ∙ ofBits-toBits f (fin false n d) q
+
+-- only a NaN differs from itself
+pub ne-itself : (x : Float) → ne x x ≡ isNan x
+unfolding isNan
+ne-itself nan = unfold ne in refl
+ne-itself (inf true) = unfold ne in refl
+ne-itself (inf false) = unfold ne in refl
+ne-itself (fin s m e) = go (ne (fin s m e) (fin s m e)) refl
+  where
+    go : (b : Bool) → ne (fin s m e) (fin s m e) ≡ b → b ≡ false
+    go false h = refl
+    go true h = let d : fin s m e ≡ nan = differs-from-itself (fin s m e) (rw h tt) in cc

@@ -42,13 +42,16 @@ case-cubic (c ∷ d ∷ e ∷ []) h = absurd (omega arith)
 case-cubic (c ∷ d ∷ e ∷ f ∷ []) h = refl
 case-cubic (c ∷ d ∷ e ∷ f ∷ g ∷ p) h = absurd (omega arith)
 
+-- from degree 4 on the roots are the search's
+pub by-search : (p : List Float) → 5 ≤ length p → byDegree p ≡ searched p
+unfolding byDegree
+by-search [] h = absurd (omega arith)
+by-search (c ∷ []) h = absurd (omega arith)
+by-search (c ∷ d ∷ []) h = absurd (omega arith)
+by-search (c ∷ d ∷ e ∷ []) h = absurd (omega arith)
+by-search (c ∷ d ∷ e ∷ f ∷ []) h = absurd (omega arith)
+by-search (c ∷ d ∷ e ∷ f ∷ g ∷ p) h = refl
+
 pub case-searched : (p : List Float) → 5 ≤ length p → asRoots (searched p) (searchEnd p) ≡ degreeCases p
-unfolding asRoots degreeCases byDegree endingByDegree
-case-searched [] h = absurd (omega arith)
-case-searched (c ∷ []) h = absurd (omega arith)
-case-searched (c ∷ d ∷ []) h = absurd (omega arith)
-case-searched (c ∷ d ∷ e ∷ []) h = absurd (omega arith)
-case-searched (c ∷ d ∷ e ∷ f ∷ []) h = absurd (omega arith)
-case-searched (c ∷ d ∷ e ∷ f ∷ g ∷ p) h =
-    let q = c ∷ d ∷ e ∷ f ∷ g ∷ p in
-    rw (ne-eqb (degreeOf q) 3 (λ (k : degreeOf q ≡ 3). omega arith), le-ltb (degreeOf q) 4 (omega arith))
+unfolding asRoots degreeCases endingByDegree
+case-searched p h = rw (by-search p h, ne-eqb (degreeOf p) 3 (λ (k : degreeOf p ≡ 3). omega arith), le-ltb (degreeOf p) 4 (omega arith))

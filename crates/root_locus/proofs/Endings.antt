@@ -18,10 +18,11 @@ use Rattle.root_locus.specs.declared.ending.Ending.{Ending}
 use Rattle.root_locus.specs.declared.ending.Ending.the-variants.{Settled, Spent, Broken}
 use Rattle.root_locus.specs.Polynomial.{degreeOf}
 use Rattle.root_locus.specs.StartingPoints.{startingPoints}
-use Rattle.root_locus.specs.Search.{tolerance, nowhere, oneRound, Run, begun, further, run, after, changeAfter}
+use Rattle.root_locus.specs.Search.{tolerance, nowhere, Run, begun, further, run, after, changeAfter}
 use Rattle.root_locus.specs.Ending.{someNan, unlessNan, endOf, endingValue}
-use Rattle.root_locus.specs.Roots.{monic, searched, searchRun, byDegree, searchEnd, endingByDegree}
+use Rattle.root_locus.specs.Roots.{monic, searchRun, byDegree, searchEnd, endingByDegree}
 use Rattle.root_locus.proofs.Padding.{search-roots}
+use Rattle.root_locus.proofs.ByDegree.{by-search}
 
 -- ---- broken
 
@@ -54,24 +55,24 @@ nan-seen (z ∷ zs) n = go (n .j) (n .counted) (n .part) (isNan (z .re)) (isNan 
     go zero l (inr t) false false e f next = absurd (true≢false (sym t ∙ f))
     go (suc j) l part false false e f next = next (record { j = j; counted = omega arith; part = part })
 
-settled-else : {k : ℕ} → Settled k ≡ Broken → ⊥
-settled-else h = let i : _≡_ {A = ℕ} 0 1 = cc in absurd (omega arith)
+settled-not-broken : {k : ℕ} → Settled k ≡ Broken → ⊥
+settled-not-broken h = let i : _≡_ {A = ℕ} 0 1 = cc in absurd (omega arith)
 
-spent-else : {c : Float} → Spent c ≡ Broken → ⊥
-spent-else h = let i : _≡_ {A = ℕ} 0 1 = cc in absurd (omega arith)
+spent-not-broken : {c : Float} → Spent c ≡ Broken → ⊥
+spent-not-broken h = let i : _≡_ {A = ℕ} 0 1 = cc in absurd (omega arith)
 
-spent-not : {c : Float} {k : ℕ} → Spent c ≡ Settled k → ⊥
-spent-not h = let i : _≡_ {A = ℕ} 0 1 = cc in absurd (omega arith)
+spent-not-settled : {c : Float} {k : ℕ} → Spent c ≡ Settled k → ⊥
+spent-not-settled h = let i : _≡_ {A = ℕ} 0 1 = cc in absurd (omega arith)
 
-either-else : (b : Bool) {e f : Ending} → (e ≡ Broken → ⊥) → (f ≡ Broken → ⊥) → cond b e f ≡ Broken → ⊥
-either-else true h k i = h i
-either-else false h k i = k i
+neither-broken : (b : Bool) {e f : Ending} → (e ≡ Broken → ⊥) → (f ≡ Broken → ⊥) → cond b e f ≡ Broken → ⊥
+neither-broken true h k i = h i
+neither-broken false h k i = k i
 
 -- Broken exactly where some part of a pole is NaN. Rounds and formulas alone never end so.
 pub ending-broken : (p : List Float) → (endingByDegree p ≡ Broken → NanIn (byDegree p)) × (NanIn (byDegree p) → endingByDegree p ≡ Broken)
 unfolding endingByDegree unlessNan searchEnd endOf
 ending-broken p = (
-  λ h. nan-found (byDegree p) (go (someNan (byDegree p)) (either-else (ltb (degreeOf p) 4) settled-else (either-else (lt (searchRun p .last) tolerance) settled-else spent-else)) h),
+  λ h. nan-found (byDegree p) (go (someNan (byDegree p)) (neither-broken (ltb (degreeOf p) 4) settled-not-broken (neither-broken (lt (searchRun p .last) tolerance) settled-not-broken spent-not-broken)) h),
   λ n. rw (nan-seen (byDegree p) n),
 )
   where
@@ -158,20 +159,8 @@ module _ (p : List Float) where
   unfolding searchRun
   search-ran = ran (monic p) 199 (begun start)
 
-  searched-by : 4 ≤ degreeOf p → byDegree p ≡ searched p
-  unfolding byDegree
-  searched-by h = go p h
-    where
-      go : (q : List Float) → 4 ≤ degreeOf q → byDegree q ≡ searched q
-      go [] h = absurd (omega arith)
-      go (a ∷ []) h = absurd (omega arith)
-      go (a ∷ b ∷ []) h = absurd (omega arith)
-      go (a ∷ b ∷ c ∷ []) h = absurd (omega arith)
-      go (a ∷ b ∷ c ∷ d ∷ []) h = absurd (omega arith)
-      go (a ∷ b ∷ c ∷ d ∷ e ∷ q) h = refl
-
   poles-are : 4 ≤ degreeOf p → byDegree p ≡ after (monic p) (suc (search-ran .m)) start
-  poles-are h = searched-by h ∙ sym (search-roots p) ∙ search-ran .roots-are
+  poles-are h = by-search p (omega arith) ∙ sym (search-roots p) ∙ search-ran .roots-are
 
   -- the ending without the NaN: by formulas, or by the rounds
   ending-else : {e : Ending} → (e ≡ Broken → ⊥) → endingByDegree p ≡ e → cond (ltb (degreeOf p) 4) (Settled 0) (searchEnd p) ≡ e
@@ -181,7 +170,7 @@ module _ (p : List Float) where
   -- Settled with 0 rounds exactly where no search is needed; else the search settled.
   pub ending-settled : {k : ℕ} → endingByDegree p ≡ Settled k → ((degreeOf p < 4) × (k ≡ 0)) ⊎ ((4 ≤ degreeOf p) × SettledIn k)
   unfolding searchEnd endOf
-  ending-settled {k} h = go (ltb (degreeOf p) 4) (lt (searchRun p .last) tolerance) refl refl spent-not (ending-else settled-else h)
+  ending-settled {k} h = go (ltb (degreeOf p) 4) (lt (searchRun p .last) tolerance) refl refl spent-not-settled (ending-else settled-not-broken h)
     where
       go : (a b : Bool) {e : Ending} → ltb (degreeOf p) 4 ≡ a → lt (searchRun p .last) tolerance ≡ b → (e ≡ Settled k → ⊥)
           → cond a (Settled 0) (cond b (Settled (searchRun p .used)) e) ≡ Settled k
@@ -208,7 +197,7 @@ module _ (p : List Float) where
   -- Spent: none of 200 rounds of the search was below the tolerance, and so neither is the change that is told.
   pub ending-spent : {c : Float} → endingByDegree p ≡ Spent c → (4 ≤ degreeOf p) × SpentWith c
   unfolding searchEnd endOf
-  ending-spent {c} h = go (ltb (degreeOf p) 4) (lt (searchRun p .last) tolerance) refl refl (ending-else spent-else h)
+  ending-spent {c} h = go (ltb (degreeOf p) 4) (lt (searchRun p .last) tolerance) refl refl (ending-else spent-not-broken h)
     where
       go : (a b : Bool) → ltb (degreeOf p) 4 ≡ a → lt (searchRun p .last) tolerance ≡ b → cond a (Settled 0) (cond b (Settled (searchRun p .used)) (Spent (searchRun p .last))) ≡ Spent c
           → (4 ≤ degreeOf p) × SpentWith c

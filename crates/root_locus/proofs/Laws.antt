@@ -106,7 +106,7 @@ module _ (tf : TransferFn) (k-max : Float) (n i : ℕ) where
       go true e = sym (eqb-true refusal 0 e)
       go false e = refl
 
-  -- one that is not turned away has the gain, the roots and their search's ending
+  -- one that is not turned away has the gain, the poles and how the search for them ended
   pub point-found : refusal ≡ 0 → locusPointAt tf k-max n i ≡ foundPoint (gainAt k-max n i) left
   unfolding locusPointAt pointAt
   point-found h = rw h

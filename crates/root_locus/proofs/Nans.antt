@@ -1,27 +1,14 @@
 -- The test for NaN over the first n roots, from root i on. Assumes nothing.
 use Prim.Native.Nat.{ℕ, _+_, _<_, _≤_}
-use mathlib.Core.Path.{_≡_, refl}
+use mathlib.Core.Path.{_≡_}
 use mathlib.Core.Bool.{Bool, true, false}
 use mathlib.Core.List.{List}
 use lib.ListN.{length, getD, take, drop}
-use lib.Ieee.{Float, nan, inf, fin, ne, isNan}
-use lib.Ieee.Compare.{differs-from-itself}
+use lib.Ieee.{isNan}
 use Rattle.complex.specs.declared.Complex.{Complex}
 use Rattle.root_locus.specs.Search.{nowhere}
 use Rattle.root_locus.specs.Ending.{someNan}
 use Rattle.root_locus.proofs.Lists.{first-next, first-end}
-
--- only a NaN differs from itself
-pub ne-itself : (x : Float) → ne x x ≡ isNan x
-unfolding isNan
-ne-itself nan = unfold ne in refl
-ne-itself (inf true) = unfold ne in refl
-ne-itself (inf false) = unfold ne in refl
-ne-itself (fin s m e) = go (ne (fin s m e) (fin s m e)) refl
-  where
-    go : (b : Bool) → ne (fin s m e) (fin s m e) ≡ b → b ≡ false
-    go false h = refl
-    go true h = let d : fin s m e ≡ nan = differs-from-itself (fin s m e) (rw h tt) in cc
 
 module _ (z : List Complex) (n i : ℕ) {w : Bool} (h : n ≤ length z) (inv : someNan (drop i (take n z)) ≡ w) where
   pub numbers-next : i < n → isNan (getD z i nowhere .re) ≡ false → isNan (getD z i nowhere .im) ≡ false → someNan (drop (i + 1) (take n z)) ≡ w

@@ -15,7 +15,7 @@ use Rattle.complex.specs.Complex.{fromReal, difference, small, ratio}
 use Rattle.root_locus.specs.Polynomial.{degreeOf}
 use Rattle.root_locus.specs.StartingPoints.{startingPoint, startingPoints}
 use Rattle.root_locus.specs.Roots.{quotientAt, monic, searched, searchRun, searchEnd, padded, asRoots, searchedArray}
-use Rattle.root_locus.specs.Search.{tolerance, nowhere, evalPoly, factor, differences, Round, moved, moveRoot, oneRound, rounds, Run, begun, further, run}
+use Rattle.root_locus.specs.Search.{tolerance, nowhere, evalPoly, factor, differences, Round, moved, moveRoot, oneRound, Run, begun, further, run}
 use Rattle.root_locus.proofs.Rounds.{run-roots}
 
 -- the array before any root is in it

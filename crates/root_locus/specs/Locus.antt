@@ -56,7 +56,7 @@ leftPoint gain p = cond (eqb (degreeOf p) 3) (noPoint 12) (foundPoint gain p)
 unfoldable pub pointAt : ℕ → Float → List Float → Point
 pointAt n gain p = cond (eqb n 0) (foundPoint gain p) (noPoint n)
 
--- Point i of n: the roots of what is left of the loop polynomial at gain i, and how the search for them ended.
+-- Point i of n: the poles by what is left of the loop polynomial at gain i, and how the search for them ended.
 unfoldable pub locusPointAt : TransferFn → Float → ℕ → ℕ → Point
 locusPointAt tf k-max n i =
     let gain = gainAt k-max n i in

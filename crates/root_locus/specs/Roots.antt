@@ -1,4 +1,5 @@
--- The roots of a polynomial by its degree, as a list that is as long as there are roots. Definitions only.
+-- The roots of a polynomial by its degree, as a list that is as long as there are roots. Roots are here what the formulas and the search give; that the
+-- polynomial is 0 there is said nowhere, and need not be so. Definitions only.
 use Prim.Native.Nat.{ℕ, _+_, _-_}
 use mathlib.Core.Bool.{Bool, false, cond}
 use mathlib.Core.List.{List, [], _∷_, _++_}
@@ -80,7 +81,6 @@ unfoldable pub searchEnd : List Float → Ending
 searchEnd p = endOf (searchRun p .used) (searchRun p .last)
 
 -- How the search for the roots of `byDegree` ended: broken comes first; settled with 0 rounds by the formulas or where there is no root; else as its rounds did.
--- Where the rounds end is all that this says: what settled need not be a root.
 unfoldable pub endingByDegree : List Float → Ending
 endingByDegree p = unlessNan (byDegree p) (cond (ltb (degreeOf p) 4) (Settled 0) (searchEnd p))
 

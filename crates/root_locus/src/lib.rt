@@ -63,8 +63,8 @@ const START: [[f64; 2]; 30] = [
     [0.7071067811865474, -0.7071067811865477],
 ];
 
-// Roots with their count; the places past the count hold (0, 0). A cubic is left out. And how the search for them
-// ended.
+// Roots with their count, and how the search for them ended; the places past the count hold (0, 0). A cubic is left
+// out. They are what the formulas and the search give: nothing says that the polynomial is 0 there.
 struct Roots {
     z: [Complex; 8],
     count: usize,

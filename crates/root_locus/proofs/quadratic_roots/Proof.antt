@@ -1,6 +1,6 @@
 use mathlib.Core.Path.{_∙_}
 use borrow.Author.Needs.{needs}
-use Rattle.root_locus.specs.Roots.{discriminant, realPair, complexPair, quadratic, asRoots}
+use Rattle.root_locus.specs.Roots.{discriminant, realPair, complexPair, quadratic}
 use Rattle.root_locus.proofs.quadratic_roots.Statement.{statement}
 use Rattle.root_locus.proofs.quadratic_roots.Tie as tie
 

@@ -1,4 +1,3 @@
-use borrow.Author.Needs.{needs}
 use Rattle.root_locus.specs.Ending.{endOf}
 use Rattle.root_locus.proofs.ending.end_of.Statement.{statement}
 use Rattle.root_locus.proofs.ending.end_of.Tie as tie

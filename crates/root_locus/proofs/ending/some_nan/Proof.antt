@@ -2,8 +2,9 @@ use Prim.Native.Nat.{_-_, _≤_}
 use mathlib.Core.Path.{_≡_, refl, sym, _∙_}
 use lib.ListN.{length, take, drop}
 use borrow.Author.Needs.{needs}
+use Rattle.laws.proofs.Order.{ne-itself}
 use Rattle.root_locus.specs.Ending.{someNan}
-use Rattle.root_locus.proofs.Nans.{ne-itself, numbers-next, nan-re, nan-im, numbers-done}
+use Rattle.root_locus.proofs.Nans.{numbers-next, nan-re, nan-im, numbers-done}
 use Rattle.root_locus.proofs.ending.some_nan.Statement.{statement}
 use Rattle.root_locus.proofs.ending.some_nan.Tie as tie
 
