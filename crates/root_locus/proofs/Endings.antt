@@ -1,6 +1,6 @@
 -- What the ending of a search says of it: broken exactly where some part of a pole is NaN; settled and spent by the rounds themselves, one after the other,
 -- whatever their changes. Assumes nothing.
-use Prim.Native.Nat.{ℕ, zero, suc, _+_, _-_, _<_, _≤_}
+use Prim.Native.Nat.{ℕ, zero, suc, _+_, _-_, _^_, _<_, _≤_}
 use mathlib.Core.Path.{_≡_, refl, sym, ap, _∙_}
 use mathlib.Core.Bool.{Bool, true, false, _||_, cond, true≢false}
 use mathlib.Core.Logic.{_⊎_, inl, inr, ⊎-elim}
@@ -8,12 +8,11 @@ use mathlib.Core.List.{List, [], _∷_}
 use native.Mathlib.Omega.{arith}
 use borrow.Author.Tests.{ltb-true, ltb-false}
 use lib.IntN.{pos}
-use lib.Dec.{ltb}
+use lib.Dec.{ltb, le→leb}
 use lib.ListN.{length, getD}
-use lib.Ieee.{Float, binary64, lt, isNan, ofInt, toUnsigned}
+use lib.Ieee.{Float, binary64, lt, isNan, inFloat, ofInt, toUnsigned}
 use lib.Ieee.Back.{unsigned-back}
 use Rattle.complex.specs.declared.Complex.{Complex}
-use Rattle.sweep.proofs.Grids.{exact}
 use Rattle.root_locus.specs.declared.ending.Ending.{Ending}
 use Rattle.root_locus.specs.declared.ending.Ending.the-variants.{Settled, Spent, Broken}
 use Rattle.root_locus.specs.Polynomial.{degreeOf}
@@ -260,9 +259,9 @@ module _ (p : List Float) where
             ⊎-elim (λ w. absurd (omega (arith, w .0))) (λ w. absurd (true≢false (sym (w .1 .stopped) ∙ s .going (i - 1) (omega (arith, w .1 .least, w .1 .most))))) (ending-settled h)
         go (Spent d) h = rw (ending-spent h .1 .last ∙ sym (s .last))
 
--- ---- the value of a settled ending tells its rounds
-pub rounds-known : {j k : ℕ} → j ≤ 200 → k ≤ 200 → endingValue (Settled j) ≡ endingValue (Settled k) → j ≡ k
+-- ---- the value of a settled ending tells its rounds, as far as an f64 counts without a gap
+pub rounds-known : {j k : ℕ} → j ≤ 2 ^ 53 → k ≤ 2 ^ 53 → endingValue (Settled j) ≡ endingValue (Settled k) → j ≡ k
 rounds-known {j} {k} h l e = sym (back j h) ∙ ap (toUnsigned 64) e ∙ back k l
   where
-    back : (n : ℕ) → n ≤ 200 → toUnsigned 64 (ofInt binary64 (pos n)) ≡ n
-    back n h = unsigned-back binary64 64 n (exact n (omega arith)) (omega arith) .1
+    back : (n : ℕ) → n ≤ 2 ^ 53 → toUnsigned 64 (ofInt binary64 (pos n)) ≡ n
+    back n h = unsigned-back binary64 64 n (unfold inFloat in le→leb n (2 ^ 53) h) (omega arith) .1
