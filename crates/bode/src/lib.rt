@@ -1,4 +1,6 @@
 // Scans over a Bode sweep: gain and phase crossover, gain and phase margin; and a summary of one that comes in parts.
+#![tactic(auto)]
+
 mod summary;
 
 ghost use Rattle.std.specs.Prelude.{◌≡◌, true, ◌<◌, length};

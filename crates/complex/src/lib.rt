@@ -1,4 +1,6 @@
 // Complex numbers of two f64, by value. Each operation is the Rust's, rounded in its order.
+#![tactic(auto)]
+
 ghost use Rattle.std.specs.Prelude.{◌≡◌};
 ghost use Rattle.complex.specs.Complex.{new_of, from_real, product, sum, difference, magnitude_sq, magnitude_of, outcome_of, reciprocal_of, quotient, quotient_or_zero};
 

@@ -21,6 +21,11 @@ pub either : (P : Float → Type 0) (b : Bool) {x y : Float} → P x → P y →
 either P true h k = h
 either P false h k = k
 
+odd_signed : (s : Bool) (d q k l : ℕ) → T (signed s (odd d s q k l))
+unfolding odd
+odd_signed s d zero k l = same s
+odd_signed s d (suc q) k l = same s
+
 pub round_signed : (f : Format) (s : Bool) (a c : ℕ) → T (signed s (round f s a c))
 round_signed f s a c =
     let n = a * 2 ^ low f in
@@ -28,11 +33,7 @@ round_signed f s a c =
     let u = c * 2 ^ k in
     subst (λ (x : Float). T (signed s x)) (sym (round_is f s a c)) (of_units (nearest (n / u) (compare (n % u * 2) u)) k)
   where
-    of_odd : (d q k l : ℕ) → T (signed s (odd d s q k l))
-    of_odd d zero k l = unfold odd in same s
-    of_odd d (suc q) k l = unfold odd in same s
-
     of_units : (q k : ℕ) → T (signed s (units f s q k))
     of_units q k =
         unfold units in
-        either (λ x. T (signed s x)) (ltb (q * 2 ^ k) (2 ^ (low f + suc (emax f)))) (of_odd (suc (prec f)) q k (low f)) (same s)
+        either (λ x. T (signed s x)) (ltb (q * 2 ^ k) (2 ^ (low f + suc (emax f)))) (odd_signed s (suc (prec f)) q k (low f)) (same s)

@@ -1,5 +1,7 @@
 // How near a curve comes to the critical point (-1, 0), a summary of one that comes in parts, and the grid of
 // frequencies.
+#![tactic(auto)]
+
 mod frequency;
 mod summary;
 

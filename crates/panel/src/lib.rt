@@ -1,5 +1,7 @@
 // The entries of the regulator's set-up panel: gain and phase crossover of readings in bytes. A reading has 24 bytes:
 // the frequency, the magnitude in decibels and the phase in degrees, each an f64, the least byte first.
+#![tactic(auto)]
+
 ghost use Rattle.std.specs.Prelude.{◌≡◌, ◌+◌, ◌*◌, ◌%◌, ◌≤◌, length};
 ghost use Rattle.sweep.specs.Refusal.{refusal_of};
 ghost use Rattle.sweep.specs.Answer.{crossing_outcome};

@@ -1,5 +1,7 @@
 // Complex numbers and transfer functions from places that a host lends, and answers to them: the number is returned, and
 // the values are written only on 0.
+#![tactic(auto)]
+
 ghost use Rattle.std.specs.Prelude.{◌≡◌, [], ◌∷◌};
 ghost use Rattle.complex.specs.Complex.{values_of};
 ghost use Rattle.complex.specs.Complex as quotient;

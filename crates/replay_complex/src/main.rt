@@ -1,5 +1,7 @@
 // Replays the oracle's vectors of scalar and complex arithmetic. Standard input is a list of records of eight
 // words: question, x.re, x.im, y.re, y.im, number, and two values. tools/oracle/README.md has the questions.
+#![tactic(auto)]
+
 use complex::{Complex, Quotient};
 use vectors::{Tally, Word};
 

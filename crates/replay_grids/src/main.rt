@@ -1,6 +1,8 @@
 // Replays the oracle's vectors of the two grids. Standard input is a list of cases; tools/oracle/README.md has
 // their format. The lent list holds a mark in each place before a call, so that a place that must stay as it was is
 // seen to.
+#![tactic(auto)]
+
 ghost use Rattle.std.specs.Prelude.{◌≡◌, length};
 
 use sweep::Grid;

@@ -1,5 +1,7 @@
 // Replays the oracle's vectors of the locus point and of the stability test. Standard input is a list of cases;
 // tools/oracle/README.md has their format.
+#![tactic(auto)]
+
 use complex::Complex;
 use root_locus::LocusPoint;
 use sweep::Check;

@@ -1,5 +1,7 @@
 // Replays the oracle's vectors of the panel's entries. Standard input is a list of cases; tools/oracle/README.md has
 // their format. Each byte for an answer holds a mark before a call, so that one that must stay as it was is seen to.
+#![tactic(auto)]
+
 use vectors::{Tally, Word};
 
 const MARK: u8 = 0xEE;

@@ -1,5 +1,7 @@
 // Replays the oracle's vectors of the scans. Standard input is a list of cases; tools/oracle/README.md has their
 // format.
+#![tactic(auto)]
+
 ghost use Rattle.std.specs.Prelude.{◌≤◌};
 
 use bode::Reading;

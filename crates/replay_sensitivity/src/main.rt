@@ -1,5 +1,7 @@
 // Replays the oracle's vectors of evaluation and the four responses. Standard input is a list of cases;
 // tools/oracle/README.md has their format.
+#![tactic(auto)]
+
 use sensitivity::LoopShaping;
 use transfer_fn::{Response, TransferFn};
 use vectors::{Tally, Word};

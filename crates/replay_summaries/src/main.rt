@@ -1,5 +1,7 @@
 // Replays the oracle's vectors of the summaries: sweeps that come in parts, against the scan of the uncut list. Standard
 // input is a list of cases; tools/oracle/README.md has their format.
+#![tactic(auto)]
+
 use bode::{BodeFed, BodeSummary};
 use nyquist::{CurveFed, CurveSummary};
 use sensitivity::{SensitivityFed, SensitivitySummary};

@@ -1,5 +1,7 @@
 // Poles of a closed loop under a gain: the loop polynomial, its roots, whether they are stable, the points of the
 // root locus and the grid of their gains.
+#![tactic(auto)]
+
 mod ending;
 
 ghost use Rattle.std.specs.Prelude.{◌≡◌, ◌+◌, ◌<◌, ◌≤◌, [], ◌∷◌, length};

@@ -5,6 +5,8 @@
 // rounded to a whole number. A polynomial guesses 28 of them, and one division gives the rest, with a
 // remainder that says which way to round. The guess is tested; where it is not near enough, as for a
 // subnormal x, two steps of Heron's method take its place.
+#![tactic(auto)]
+
 ghost use Rattle.std.specs.Prelude.{◌≡◌, ℕ, ◌+◌, ◌*◌, ◌-◌, ◌/◌, ◌%◌, ◌^◌, ◌<◌, ◌≤◌, false, T};
 ghost use Rattle.std.specs.Float.Ieee.Positive.{positive};
 ghost use Rattle.std.specs.Float.{binary64};

@@ -1,5 +1,7 @@
 // The responses of a unity-feedback loop at a frequency, loop gain L, sensitivity S, complementary sensitivity T
 // and control sensitivity Q; the scans over a sweep of S and T; and a summary of one that comes in parts.
+#![tactic(auto)]
+
 mod summary;
 
 ghost use Rattle.std.specs.Prelude.{◌≡◌, ◌-◌, ◌<◌, length, get_or};

@@ -1,5 +1,7 @@
 // What the entries share: the reasons for turning a call away, each with the number that document 01 gives it; what scans
 // and grids answer, also as plain numbers for a host; the first crossing among neighbours; interpolation.
+#![tactic(auto)]
+
 ghost use Rattle.std.specs.Prelude.{◌≡◌, cond, ◌+◌, ◌-◌, ltb};
 ghost use Rattle.sweep.specs.Refusal.{number_of, refusal_of, scan_refusal, lists_refusal, grid_refusal};
 ghost use Rattle.sweep.specs.Answer.{outcome_of, crossing_outcome, kept_of};

@@ -1,5 +1,7 @@
 // Transfer functions and their value at a frequency ω. The host lends cosine and sine of -(ω * k) for k = 0, 1,
 // 2 and on, as the Rust computes them.
+#![tactic(auto)]
+
 ghost use Rattle.std.specs.Prelude.{◌≡◌, ◌+◌, ◌<◌, ◌≤◌, max, length};
 ghost use Rattle.sweep.specs.Refusal.{refusal_of};
 ghost use Rattle.transfer_fn.specs.Evaluation.{pair_sum, value_at, evaluation_refusal, outcome_of, outcome_of_both, evaluation, evaluation_of_both};

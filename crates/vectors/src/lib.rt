@@ -1,6 +1,7 @@
 // Support for the replay programs: the oracle's vectors are read from standard input, a word of eight bytes at a
 // time, and answers are counted. No contract can speak of what is read or written: a function that reads a list
 // promises its length, and that the places behind it stay.
+#![tactic(auto)]
 
 ghost use Rattle.std.specs.Prelude.{◌≡◌, ◌<◌};
 ghost use Rattle.vectors.specs.Made.{Made};

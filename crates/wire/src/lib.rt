@@ -1,5 +1,7 @@
 // Numbers as bytes, the least byte first, and f64 as bit patterns. A NaN is read from any of its patterns, and
 // written as 7FF8000000000000.
+#![tactic(auto)]
+
 ghost use Rattle.std.specs.Prelude.{◌≡◌, ◌++◌, ◌+◌, ◌≤◌, ◌<◌, length, drop};
 ghost use Rattle.std.specs.Float.{binary64};
 ghost use Rattle.std.specs.Float.Ieee.{of_bits, to_bits};

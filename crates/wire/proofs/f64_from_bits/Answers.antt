@@ -6,8 +6,7 @@ use borrow.Author.Tests.{lt-ltb, le-ltb}
 use lib.Dec.{T}
 use lib.Ieee.{Float, nan, inf, fin, binary64, div, is_nan, nan_bits, of_bits}
 use lib.Ieee.Bits.{nan_bits_is, nan_bits_above}
-use Rattle.wire.proofs.f64_from_bits.Statement.{statement}
-use Rattle.wire.proofs.f64_from_bits.Tie as tie
+use Rattle.wire.proofs.f64_from_bits.Goals as goal
 
 is-nan : (x : Float) → is_nan x ≡ true → x ≡ nan
 unfolding is_nan
@@ -25,14 +24,8 @@ above n l = is-nan (of_bits binary64 n) (sym (nan_bits_is binary64 n) ∙ nan_bi
 below : (n : ℕ) → n % 0x8000_0000_0000_0000 ≤ 0x7ff0_0000_0000_0000 → T (not (nan_bits binary64 n))
 below n l = rw (nan_bits_above binary64 n ∙ le-ltb _ _ l) tt
 
-returns : tie.Need-returns
-returns c = zeros ∙ sym (above c.before.args.n c.if1.true)
+pub returns-then-n-gt9218868437227405312 : goal.returns-then-n-gt9218868437227405312
+returns-then-n-gt9218868437227405312 c = zeros ∙ sym (above c.args.n c.if-n-gt9218868437227405312.true)
 
-float-from-bits-result : tie.Need-float-from-bits-result
-float-from-bits-result c = below c.before.args.n c.if1.false
-
-returns-2 : tie.Need-returns-2
-returns-2 c = search rules
-
-pub f64-from-bits-spec : {M : Type 1} → statement M
-f64-from-bits-spec = tie.close (tie.spec returns float-from-bits-result returns-2)
+pub float_from_bits-result : goal.float_from_bits-result
+float_from_bits-result c = below c.args.n c.if-n-gt9218868437227405312.false

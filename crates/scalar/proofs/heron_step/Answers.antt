@@ -1,0 +1,8 @@
+use native.Mathlib.Nat.{div-le_self}
+use native.Mathlib.Omega.{arith}
+use borrow.Author.Rules.{rules}
+use Rattle.scalar.proofs.Heron.{heron_above, heron_near}
+use Rattle.scalar.proofs.heron_step.Goals as goal
+
+pub returns : goal.returns
+returns c = (heron_above c.args.n c.args.t c.requires.0, heron_near c.args.n c.args.t c.requires.0)

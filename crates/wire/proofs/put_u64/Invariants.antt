@@ -1,0 +1,13 @@
+use Prim.Native.Nat.{◌≤◌, ◌-◌, ◌%◌}
+use mathlib.Core.Path.{◌≡◌, refl, ◌∙◌}
+use lib.ListN.{length, length-set}
+use lib.Seq.{sets, sets-eq}
+use Rattle.wire.specs.Bytes.{le_bytes}
+use Rattle.wire.proofs.Bytes.{length-le_bytes, write_next, write_end}
+use Rattle.wire.proofs.put_u64.Given as goal
+
+abbrev pub invariant-loop-i : goal.invariant-loop-i
+invariant-loop-i l = (l.i ≤ 8) × (length l.s ≡ length l.initial.s) × (sets l.s l.i (le_bytes (8 - l.i) l.left) ≡ sets l.initial.s 0 (le_bytes 8 l.n))
+
+abbrev pub decreases-loop-i : goal.decreases-loop-i
+decreases-loop-i l = 8 - l.i
