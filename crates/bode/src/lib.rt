@@ -15,7 +15,7 @@ use sweep::{Answer, Check, Crossing, Sought};
 
 // One reading of a sweep: the frequency, the magnitude in decibels and the phase in degrees.
 #[repr(C)]
-#[derive(Drop)]
+#[derive(Clone, Copy)]
 pub struct Reading {
     pub omega: f64,
     pub db: f64,
@@ -34,7 +34,7 @@ fn reading_at(omega: &[f64], db: &[f64], phase: &[f64], i: usize) -> Reading
 }
 
 // Which crossover of a sweep: where the magnitude crosses 0 dB, or where the phase crosses -180 degrees.
-#[derive(Drop)]
+#[derive(Clone, Copy)]
 pub enum Crossover {
     Gain,
     Phase,
@@ -211,7 +211,7 @@ pub fn phase_margin(omega: &[f64], db: &[f64], phase: &[f64]) -> Answer
 }
 
 // A scan of readings on its way: the last two that it took, and the place where it ends.
-#[derive(Drop)]
+#[derive(Clone, Copy)]
 struct GainScan {
     earlier: Reading,
     last: Reading,

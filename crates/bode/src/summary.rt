@@ -12,7 +12,7 @@ use super::{Crossover, Reading};
 use sweep::{Check, Crossing, FreqError};
 
 // The first and the last reading, the first crossing of 0 dB and of -180 degrees, and whether there are readings.
-#[derive(Drop)]
+#[derive(Clone, Copy)]
 pub struct BodeSummary {
     first: Reading,
     last: Reading,
@@ -25,7 +25,7 @@ pub struct BodeSummary {
 // belongs to it is then 0 too; so all zeros are the summary of no readings. The reserved number is always 0 and never
 // read; it stands where padding would, so that every byte is told.
 #[repr(C)]
-#[derive(Drop)]
+#[derive(Clone, Copy)]
 pub struct BodePlain {
     pub read: u32,
     pub gain_found: u32,
@@ -38,7 +38,7 @@ pub struct BodePlain {
 }
 
 // What a feed gives: the summary with the part's readings behind it, or the refusal alone.
-#[derive(Drop)]
+#[derive(Clone, Copy)]
 pub enum BodeFed {
     Taken(BodeSummary),
     Refused(FreqError),

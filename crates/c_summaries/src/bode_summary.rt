@@ -11,7 +11,7 @@ use bode::{BodeFed, BodePlain, BodeSummary};
 
 // What a feed gives: 0 and the summary with the part behind it, or the refusal and the summary as it came.
 #[repr(C)]
-#[derive(Drop)]
+#[derive(Clone, Copy)]
 pub struct BodePlainFed {
     pub number: u32,
     pub reserved: u32,

@@ -9,7 +9,7 @@ use nyquist::{CurveFed, CurvePlain, CurveSummary};
 
 // What a feed gives: 0 and the summary with the part behind it, or the refusal and the summary as it came.
 #[repr(C)]
-#[derive(Drop)]
+#[derive(Clone, Copy)]
 pub struct CurvePlainFed {
     pub number: u32,
     pub reserved: u32,

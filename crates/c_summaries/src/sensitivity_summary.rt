@@ -12,7 +12,7 @@ use sensitivity::{SensitivityFed, SensitivityPlain, SensitivitySummary};
 
 // What a feed gives: 0 and the summary with the part behind it, or the refusal and the summary as it came.
 #[repr(C)]
-#[derive(Drop)]
+#[derive(Clone, Copy)]
 pub struct SensitivityPlainFed {
     pub number: u32,
     pub reserved: u32,

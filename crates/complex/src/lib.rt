@@ -4,14 +4,14 @@
 ghost use Rattle.std.specs.Prelude.{◌≡◌};
 ghost use Rattle.complex.specs.Complex.{new_of, from_real, product, sum, difference, magnitude_sq, magnitude_of, outcome_of, reciprocal_of, quotient, quotient_or_zero};
 
-#[derive(Drop)]
+#[derive(Clone, Copy)]
 pub struct Complex {
     pub re: f64,
     pub im: f64,
 }
 
 // A quotient, or none where the divisor's squared magnitude is below epsilon.
-#[derive(Drop)]
+#[derive(Clone, Copy)]
 pub enum Quotient {
     Value(Complex),
     Nothing,

@@ -10,13 +10,13 @@ use complex::Complex;
 use sweep::{Check, FreqError};
 
 // The point nearest to (-1, 0), if there is one whose squared distance is finite.
-#[derive(Drop)]
+#[derive(Clone, Copy)]
 pub enum Nearest {
     Nowhere,
     Point(Complex),
 }
 
-#[derive(Drop)]
+#[derive(Clone, Copy)]
 pub struct CurveSummary {
     nearest: Nearest,
 }
@@ -24,7 +24,7 @@ pub struct CurveSummary {
 // The summary as plain numbers, for a host to keep between calls: 1 and the nearest point, or zeros. The reserved number
 // is always 0 and never read; it stands where padding would, so that every byte is told.
 #[repr(C)]
-#[derive(Drop)]
+#[derive(Clone, Copy)]
 pub struct CurvePlain {
     pub found: u32,
     pub reserved: u32,
@@ -33,7 +33,7 @@ pub struct CurvePlain {
 }
 
 // What a feed gives: the summary with the part's points behind it, or the refusal alone.
-#[derive(Drop)]
+#[derive(Clone, Copy)]
 pub enum CurveFed {
     Taken(CurveSummary),
     Refused(FreqError),

@@ -36,7 +36,7 @@ fn place(which: Crossover) -> usize
 }
 
 // A side of what is sought. Two values that lie on one do not cross; no value lies on the third.
-#[derive(Drop)]
+#[derive(Clone, Copy)]
 enum Side {
     Above,
     Below,

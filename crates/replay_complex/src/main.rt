@@ -6,7 +6,7 @@ use complex::{Complex, Quotient};
 use vectors::{Tally, Word};
 
 // What the oracle answered: the number, and the bits of the values.
-#[derive(Drop)]
+#[derive(Clone, Copy)]
 struct Expected {
     number: u64,
     first: u64,

@@ -9,7 +9,7 @@ use sweep::{Crossing, Kept};
 use vectors::{Tally, Word};
 
 // A register: a summary of each kind. A case uses that of its own.
-#[derive(Drop)]
+#[derive(Clone, Copy)]
 struct Register {
     bode: BodeSummary,
     sensitivity: SensitivitySummary,
@@ -54,7 +54,7 @@ impl Register {
 }
 
 // The registers of a case, and the counts of all cases so far.
-#[derive(Drop)]
+#[derive(Clone, Copy)]
 struct Machine {
     r0: Register,
     r1: Register,

@@ -7,7 +7,7 @@ use complex::Complex;
 // Settled: in so many rounds, 0 where there was nothing to search for. Spent: 200 rounds ran, and the last one's
 // largest change was this, not below 1e-12. Broken: some part of a root is NaN, however the rounds ended. What has
 // settled has stopped; nothing says that it is right.
-#[derive(Drop)]
+#[derive(Clone, Copy)]
 pub enum Ending {
     Settled(usize),
     Spent(f64),

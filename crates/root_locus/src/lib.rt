@@ -63,7 +63,7 @@ const START: [[f64; 2]; 30] = [
 
 // Roots with their count, and how the search for them ended; the places past the count hold (0, 0). A cubic is left
 // out. They are what the formulas and the search give: nothing says that the polynomial is 0 there.
-#[derive(Drop)]
+#[derive(Clone, Copy)]
 struct Roots {
     z: [Complex; 8],
     count: usize,
@@ -311,7 +311,7 @@ pub fn stability_region(poles: [Complex; 8], count: usize) -> bool
 
 // A point of the root locus: the gain and so many poles, with (0, 0) in the places past them, and how the search for
 // them ended. Where the call is turned away the gain is 0, there are no poles, and no round was used.
-#[derive(Drop)]
+#[derive(Clone, Copy)]
 pub struct LocusPoint {
     pub check: Check,
     pub gain: f64,

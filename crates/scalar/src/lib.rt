@@ -62,7 +62,7 @@ fn root_above(m: u64) -> u64
 
 // The coefficients of a polynomial of the fourth degree, from the constant on. Their signs are +, +, -, + and -; the
 // numbers here have none.
-#[derive(Drop)]
+#[derive(Clone, Copy)]
 struct Quartic(u64, u64, u64, u64, u64);
 
 // A polynomial near to the root of m * 2^8 on one of 16 parts, eight for each parity of the exponent: the
@@ -105,7 +105,7 @@ fn guess(bits: u64) -> u64
 }
 
 // significand * 2^exponent
-#[derive(Drop)]
+#[derive(Clone, Copy)]
 struct Scaled {
     significand: u64,
     exponent: u64,

@@ -18,7 +18,7 @@ use sweep::{Answer, Check, Crossing, Sought};
 use transfer_fn::{Both, Response, TransferFn};
 
 // A plant and its controller.
-#[derive(Drop)]
+#[derive(Clone, Copy)]
 pub struct LoopShaping {
     pub plant: TransferFn,
     pub controller: TransferFn,
@@ -102,7 +102,7 @@ impl LoopShaping {
 
 // One reading of a sweep: the frequency, and S and T in decibels.
 #[repr(C)]
-#[derive(Drop)]
+#[derive(Clone, Copy)]
 pub struct Reading {
     pub omega: f64,
     pub s: f64,

@@ -13,7 +13,7 @@ use super::Reading;
 use sweep::{Check, Crossing, FreqError, Kept, Sought};
 
 // The first and the last reading, the first crossing of S and T, the bandwidth, and whether there are readings.
-#[derive(Drop)]
+#[derive(Clone, Copy)]
 pub struct SensitivitySummary {
     first: Reading,
     last: Reading,
@@ -26,7 +26,7 @@ pub struct SensitivitySummary {
 // belongs to it is then 0 too; so all zeros are the summary of no readings. The bandwidth's mark is 2 where it is not kept.
 // The reserved number is always 0 and never read; it stands where padding would, so that every byte is told.
 #[repr(C)]
-#[derive(Drop)]
+#[derive(Clone, Copy)]
 pub struct SensitivityPlain {
     pub read: u32,
     pub crossover_found: u32,
@@ -39,7 +39,7 @@ pub struct SensitivityPlain {
 }
 
 // What a feed gives: the summary with the part's readings behind it, or the refusal alone.
-#[derive(Drop)]
+#[derive(Clone, Copy)]
 pub enum SensitivityFed {
     Taken(SensitivitySummary),
     Refused(FreqError),

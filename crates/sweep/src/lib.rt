@@ -10,7 +10,7 @@ ghost use Rattle.sweep.specs.Scan.{or_else, crosses_by, between, first_index};
 ghost use Rattle.sweep.specs.declared.Sought.TheVariants.{Zero};
 
 // Why a call is turned away. The first three are the Rust's.
-#[derive(Drop)]
+#[derive(Clone, Copy)]
 pub enum FreqError {
     InsufficientPoints,
     InvalidFrequencyRange,
@@ -46,7 +46,7 @@ impl FreqError {
 }
 
 // What the conditions of a call say before it is worked out.
-#[derive(Drop)]
+#[derive(Clone, Copy)]
 pub enum Check {
     Passed,
     Refused(FreqError),
@@ -94,21 +94,21 @@ pub fn check_grid(range: FreqError, n: usize, top: f64, room: usize) -> Check
 }
 
 // What a filler answers.
-#[derive(Drop)]
+#[derive(Clone, Copy)]
 pub enum Grid {
     Filled,
     Refused(FreqError),
 }
 
 // The Rust's Option of a float: the frequency where a curve crosses its level, or the margin there, or none.
-#[derive(Drop)]
+#[derive(Clone, Copy)]
 pub enum Crossing {
     At(f64),
     Missing,
 }
 
 // What a scan answers.
-#[derive(Drop)]
+#[derive(Clone, Copy)]
 pub enum Answer {
     Found(f64),
     Absent,
@@ -126,7 +126,7 @@ pub fn found(crossing: Crossing) -> Answer
 }
 
 // What a summary answers where a join makes it forget the crossing.
-#[derive(Drop)]
+#[derive(Clone, Copy)]
 pub enum Kept {
     Found(f64),
     Absent,
@@ -214,7 +214,7 @@ pub fn marked_kept(mark: u32, x: f64) -> Kept
 }
 
 // What is sought between the values of two neighbours.
-#[derive(Drop)]
+#[derive(Clone, Copy)]
 pub enum Sought {
     // One is at or above 0, and the other at or below.
     Zero,

@@ -10,7 +10,7 @@ use complex::Complex;
 use sweep::{Check, FreqError};
 
 // (b[0] + b[1] z^-1 + ..) / (1 + a[0] z^-1 + a[1] z^-2 + ..), with `order` coefficients of each kind.
-#[derive(Drop)]
+#[derive(Clone, Copy)]
 pub struct TransferFn {
     pub b: [f64; 8],
     pub a: [f64; 8],
@@ -18,14 +18,14 @@ pub struct TransferFn {
 }
 
 // A value at a frequency, or why there is none.
-#[derive(Drop)]
+#[derive(Clone, Copy)]
 pub enum Response {
     Value(Complex),
     Refused(FreqError),
 }
 
 // The values of two transfer functions at one frequency.
-#[derive(Drop)]
+#[derive(Clone, Copy)]
 pub enum Both {
     Values(Complex, Complex),
     Refused(FreqError),

@@ -7,7 +7,7 @@ ghost use Rattle.std.specs.Prelude.{◌≡◌, ◌<◌};
 ghost use Rattle.vectors.specs.Made.{Made};
 ghost use Rattle.vectors.specs.Tally.{unmarked_of, known_of, place_of, none_asked, begun_with, counted_in};
 
-#[derive(Drop)]
+#[derive(Clone, Copy)]
 pub enum Word {
     Is(u64),
     End,
@@ -100,7 +100,7 @@ fn place(question: u64, wrong: bool) -> usize
 
 // How many answers to each question were compared, and how many of them differ: first those of cases that are right,
 // then those of cases that are wrong on purpose. `wrong` says which the present case is.
-#[derive(Drop)]
+#[derive(Clone, Copy)]
 pub struct Tally {
     pub asked: [u64; 32],
     pub differ: [u64; 32],

@@ -10,6 +10,7 @@ square w = w * w / 2 ^ 32
 
 abbrev bend : ℕ → ℕ → ℕ → ℕ → ℕ
 bend c₂ c₃ c₄ w = c₂ - (c₃ * w - c₄ * square w) / 2 ^ 32
+
 record Sizes (c₁ c₂ c₃ c₄ w : ℕ) : Type 0 where
   squared : w * w ≤ (2 ^ 32 - 1) * (2 ^ 32 - 1)
   linear : c₁ * w ≤ 2 ^ 27 * 2 ^ 32
