@@ -1,9 +1,0 @@
-use borrow.Author.Rules.{rules}
-use Rattle.bode.proofs.summary.crossing_from.Statement.{statement}
-use Rattle.bode.proofs.summary.crossing_from.Tie as tie
-
-returns-2 : tie.Need-returns-2
-returns-2 c = simp (c.before.enum-told2.given.1, c.crossing.ensures)
-
-pub crossing-from-spec : {M : Type 1} → statement M
-crossing-from-spec = tie.close (tie.spec (λ c. search rules) (λ c. search rules) (λ c κs. search rules) (λ c. search rules) returns-2)

@@ -1,0 +1,14 @@
+use Prim.Native.Nat.{◌≤◌, ◌-◌}
+use mathlib.Core.Path.{◌≡◌, refl}
+use borrow.Author.Rules.{rules}
+use Rattle.laws.proofs.Loops.{arrived}
+use Rattle.scalar.specs.Scalar.{f0}
+use Rattle.transfer_fn.specs.Evaluation.{sum_up, term_of, pair_sum}
+use Rattle.transfer_fn.proofs.Sums.{sum_none, sum_more}
+use Rattle.transfer_fn.proofs.pair_sum.Given as goal
+
+abbrev pub invariant-loop-k : goal.invariant-loop-k
+invariant-loop-k l = (l.k ≤ l.n) × ((l.re ≡ sum_up l.start (term_of l.coefficients l.cosines l.first) l.k) × (l.im ≡ sum_up f0 (term_of l.coefficients l.sines l.first) l.k))
+
+abbrev pub decreases-loop-k : goal.decreases-loop-k
+decreases-loop-k l = l.n - l.k
