@@ -1,0 +1,15 @@
+use Prim.Native.Nat.{◌+◌, ◌/◌, ◌<◌}
+use mathlib.Core.Path.{sym, ◌∙◌}
+use native.Mathlib.Omega.{arith}
+use borrow.Author.Rules.{rules}
+use borrow.Author.Tests.{ltb-true, ltb-false}
+use lib.ListN.{length}
+use Rattle.panel.proofs.Decoded.{crossing_found, crossing_missing}
+use Rattle.panel.proofs.crossing.Goals as goal
+
+pub returns-then-has_pair : goal.returns-then-has_pair
+returns-then-has_pair c = crossing_found c.args.which c.args.readings.now c.first_of-i.ensures (ltb-true _ _ (sym c.has_pair.ensures ∙ c.if-has_pair.true))
+    (rw (← c.reading_at-a.ensures, ← c.reading_at-b.ensures) c.between.ensures)
+
+pub returns : goal.returns
+returns c = crossing_missing c.args.which c.args.readings.now c.first_of-i.ensures (ltb-false _ _ (sym c.has_pair.ensures ∙ c.if-has_pair.false))

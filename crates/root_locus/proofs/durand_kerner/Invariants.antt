@@ -1,0 +1,25 @@
+use Rattle.std.proofs.Common.{◌≡◌, ◌-◌, refl, ◌∙◌, ⊎_elim, rules}
+use Rattle.laws.specs.Loops.{count_up}
+use Rattle.laws.proofs.Loops.{up_begin, up_next, up_end}
+use Rattle.root_locus.specs.Search.{factor, differences, move_root, one_round, Run, begun, run}
+use Rattle.root_locus.specs.Roots.{searched_array}
+use Rattle.root_locus.proofs.Rounds.{factor_taken, factor_left, raised, kept, root_skipped, root_moved, round_more, round_last, rounds_done}
+use Rattle.root_locus.proofs.durand_kerner.Given as goal
+
+abbrev pub invariant-loop-j : goal.invariant-loop-j
+invariant-loop-j l = count_up (factor l.z l.i) (l.degree - l.j) l.j l.denom ≡ differences l.degree l.z l.i
+
+abbrev pub decreases-loop-j : goal.decreases-loop-j
+decreases-loop-j l = l.degree - l.j
+
+abbrev pub invariant-roots : goal.invariant-roots
+invariant-roots l = count_up (move_root l.norm) (l.degree - l.i) l.i (record { roots = l.z; largest = l.max_change }) ≡ one_round l.norm l.initial.z
+
+abbrev pub decreases-roots : goal.decreases-roots
+decreases-roots l = l.degree - l.i
+
+abbrev pub invariant-rounds : goal.invariant-rounds
+invariant-rounds l = (l.used ≡ l.round) × (run l.norm (200 - l.round) (record { roots = l.z; used = l.round; last = l.last_change }) ≡ run l.norm 200 (begun l.initial.z))
+
+abbrev pub decreases-rounds : goal.decreases-rounds
+decreases-rounds l = 200 - l.round

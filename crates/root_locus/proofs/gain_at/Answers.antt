@@ -1,0 +1,8 @@
+use Rattle.std.proofs.Common.{refl, arith, rules}
+use Rattle.sweep.proofs.Grids.{exact}
+use Rattle.root_locus.specs.Gain.{gain_at}
+use Rattle.root_locus.proofs.gain_at.Goals as goal
+
+pub returns : goal.returns
+unfolding gain_at
+returns c = refl

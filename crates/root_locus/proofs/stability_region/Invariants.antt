@@ -1,0 +1,10 @@
+use Rattle.std.proofs.Common.{◌≡◌, ℕ, ◌-◌, ◌≤◌, min, length, take, drop, ap, ⊎_elim, arith, rules}
+use Rattle.root_locus.specs.Stability.{none_outside, stable}
+use Rattle.root_locus.proofs.Poles.{pole_inside, pole_outside, poles_done}
+use Rattle.root_locus.proofs.stability_region.Given as goal
+
+abbrev pub invariant-loop-i : goal.invariant-loop-i
+invariant-loop-i l = (l.n ≤ length l.poles) × (none_outside (drop l.i (take l.n l.poles)) ≡ stable l.poles l.count)
+
+abbrev pub decreases-loop-i : goal.decreases-loop-i
+decreases-loop-i l = l.n - l.i

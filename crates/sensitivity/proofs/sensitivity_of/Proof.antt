@@ -1,9 +1,0 @@
-use borrow.Author.Rules.{rules}
-use Rattle.sensitivity.proofs.sensitivity_of.Statement.{statement}
-use Rattle.sensitivity.proofs.sensitivity_of.Tie as tie
-
-returns : tie.Need-returns
-returns c = simp (c.divide-or-zero.ensures, c.before.from-real.ensures, c.before.before.one-plus.ensures, c.before.before.before.loop-gain.ensures)
-
-pub sensitivity-of-spec : {M : Type 1} → statement M
-sensitivity-of-spec = tie.close (tie.spec (λ c κs. search rules) (λ c κs. search rules) (λ c κs. search rules) (λ c κs. search rules) returns)
