@@ -14,11 +14,11 @@ end_of_run-at-requires c = rw c.place.ensures (scanning _ _ c.requires (omega ar
 
 pub returns-then-crosses : goal.returns-then-crosses
 returns-then-crosses c = scan_hit _ _ c.loop-at.invariant (search rules)
-    (rw (c.sought.ensures, c.f64_at-a.ensures, c.f64_at-b.ensures) c (sym c.crosses.ensures ∙ c.if-crosses.true))
+    (rw (c.sought.ensures, c.f64_at-a.ensures, c.f64_at-b.ensures) at (sym c.crosses.ensures ∙ c.if-crosses.true))
 
 pub end_of_run-at-requires-in-loop-at : goal.end_of_run-at-requires-in-loop-at
 end_of_run-at-requires-in-loop-at c = scan_next _ _ c.loop-at.invariant (search rules)
-    (rw (c.sought.ensures, c.f64_at-a.ensures, c.f64_at-b.ensures) c (sym c.crosses.ensures ∙ c.if-crosses.false))
+    (rw (c.sought.ensures, c.f64_at-a.ensures, c.f64_at-b.ensures) at (sym c.crosses.ensures ∙ c.if-crosses.false))
 
 pub returns : goal.returns
 returns c = scan_end _ _ c.loop-at.invariant (search rules)
