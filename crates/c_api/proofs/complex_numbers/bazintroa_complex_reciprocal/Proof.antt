@@ -1,9 +1,0 @@
-use borrow.Author.Rules.{rules}
-use Rattle.c_api.proofs.complex_numbers.bazintroa_complex_reciprocal.Statement.{statement}
-use Rattle.c_api.proofs.complex_numbers.bazintroa_complex_reciprocal.Tie as tie
-
-returns : tie.Need-returns
-returns c = record { number = cc; place = cc }
-
-pub bazintroa-complex-reciprocal-spec : {M : Type 1} → statement M
-bazintroa-complex-reciprocal-spec = tie.close (tie.spec (λ c κs. search rules) (λ c κs. search rules) (λ c κs. search rules) returns)

@@ -1,9 +1,0 @@
-use borrow.Author.Rules.{rules}
-use Rattle.c_api.proofs.complex_numbers.bazintroa_complex_sub.Statement.{statement}
-use Rattle.c_api.proofs.complex_numbers.bazintroa_complex_sub.Tie as tie
-
-returns : tie.Need-returns
-returns c = cc
-
-pub bazintroa-complex-sub-spec : {M : Type 1} → statement M
-bazintroa-complex-sub-spec = tie.close (tie.spec (λ c κs. search rules) (λ c κs. search rules) (λ c κs. search rules) (λ c κs. search rules) returns)

@@ -1,0 +1,11 @@
+use mathlib.Core.Path.{◌∙◌}
+use borrow.Author.Rules.{rules}
+use Rattle.nyquist.specs.Plain.{plain_of}
+use Rattle.sweep.proofs.Runs.{left_once}
+use Rattle.c_summaries.specs.Fed.{fed_curve}
+use Rattle.c_summaries.proofs.curve_summary.bazintroa_curve_feed.Goals as goal
+
+pub returns : goal.returns
+unfolding fed_curve
+returns c = let h = rw c.from_plain.ensures at c.feed.ensures in
+    c.put_fed.ensures ∙ rw (h.0, h.1, left_once plain_of)
