@@ -1,5 +1,5 @@
 -- Roots in an array of eight, whose places past the roots hold (0, 0): the search on the array is the search on the roots alone. Assumes nothing.
-use Rattle.std.proofs.Common.{◌≡◌, ℕ, zero, suc, ◌+◌, ◌-◌, ◌<◌, ◌≤◌, Bool, true, false, cond, List, [], ◌++◌, length, get_or, take, drop, replicate, sym, refl, ◌∙◌, arith, length-set, take_at}
+use Rattle.std.proofs.Common.{◌≡◌, ℕ, zero, suc, ◌+◌, ◌-◌, ◌<◌, ◌≤◌, Bool, true, false, cond, List, [], ◌++◌, length, get_or, drop, replicate, sym, refl, ◌∙◌, arith, length-set, take_at}
 use lib.ListN.{get_or-append}
 use lib.Seq.{set-append_left}
 use lib.Ieee.{Float, lt}

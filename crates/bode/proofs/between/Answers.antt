@@ -1,4 +1,3 @@
-use borrow.Author.Rules.{rules}
 use Rattle.bode.specs.Bode.{gain_between, phase_between}
 use Rattle.bode.proofs.between.Goals as goal
 

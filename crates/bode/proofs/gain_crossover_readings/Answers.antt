@@ -1,5 +1,5 @@
 use Rattle.std.proofs.Common.{◌∙◌, ap, length, get_or, arith}
-use Rattle.bode.specs.Readings.{begun, no_reading}
+use Rattle.bode.specs.Readings.{no_reading}
 use Rattle.bode.proofs.Readings.{left, left_more, begun_fits, taken_fits, scan_answers}
 use Rattle.bode.proofs.gain_crossover_readings.Goals as goal
 

@@ -1,4 +1,3 @@
-use borrow.Author.Rules.{rules}
 use Rattle.scalar.proofs.Patterns.{nan_by_division}
 use Rattle.bode.specs.Readings.{begun}
 use Rattle.bode.proofs.gain_scan.Goals as goal

@@ -1,5 +1,4 @@
 use mathlib.Core.Path.{ap, ◌∙◌}
-use borrow.Author.Rules.{rules}
 use Rattle.sweep.specs.Answer.{crossing_outcome}
 use Rattle.sweep.proofs.Answers.{scan_refused, scan_passed}
 use Rattle.bode.proofs.gain_scanned.Goals as goal

@@ -1,5 +1,4 @@
 use mathlib.Core.Path.{ap, ◌∙◌}
-use borrow.Author.Rules.{rules}
 use Rattle.sweep.specs.Answer.{crossing_outcome}
 use Rattle.sweep.specs.Scan.{scanned_by}
 use Rattle.sweep.proofs.Answers.{scan_refused, scan_passed}

@@ -1,9 +1,5 @@
-use Prim.Native.Nat.{◌+◌, ◌<◌}
 use mathlib.Core.Path.{sym, ◌∙◌}
-use native.Mathlib.Omega.{arith}
-use borrow.Author.Rules.{rules}
 use borrow.Author.Tests.{ltb-true, ltb-false}
-use lib.ListN.{length}
 use Rattle.bode.proofs.Crossovers.{margin_found, margin_missing}
 use Rattle.bode.proofs.margin_at.Goals as goal
 

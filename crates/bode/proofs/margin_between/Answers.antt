@@ -1,5 +1,4 @@
 use mathlib.Core.Path.{ap}
-use borrow.Author.Rules.{rules}
 use lib.Ieee.{binary64, neg, add}
 use Rattle.bode.specs.Bode.{f180, gain_margin_between, phase_margin_between}
 use Rattle.bode.proofs.margin_between.Goals as goal

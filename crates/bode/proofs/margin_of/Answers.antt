@@ -1,4 +1,3 @@
-use borrow.Author.Rules.{rules}
 use Rattle.bode.specs.Bode.{margin_at}
 use Rattle.bode.proofs.Crossovers.{margin_is}
 use Rattle.bode.proofs.margin_of.Goals as goal

@@ -1,4 +1,3 @@
-use borrow.Author.Rules.{rules}
 use Rattle.bode.proofs.Crossovers.{pair_is}
 use Rattle.bode.proofs.pair.Goals as goal
 

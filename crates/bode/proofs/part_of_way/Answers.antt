@@ -1,4 +1,3 @@
-use borrow.Author.Rules.{rules}
 use Rattle.bode.specs.Bode.{part_of_way}
 use Rattle.bode.proofs.part_of_way.Goals as goal
 

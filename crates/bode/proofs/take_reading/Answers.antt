@@ -1,4 +1,3 @@
-use borrow.Author.Rules.{rules}
 use Rattle.bode.specs.Readings.{taken}
 use Rattle.bode.proofs.take_reading.Goals as goal
 

@@ -1,4 +1,3 @@
-use borrow.Author.Rules.{rules}
 use Rattle.bode.specs.Bode.{value_at}
 use Rattle.bode.proofs.value_at.Goals as goal
 

@@ -1,5 +1,4 @@
 use mathlib.Core.Path.{sym}
-use borrow.Author.Rules.{rules}
 use borrow.Author.Tests.{eqb-true}
 use Rattle.laws.proofs.Outcome.{answered_found}
 use Rattle.sweep.specs.Answer.{outcome_of}

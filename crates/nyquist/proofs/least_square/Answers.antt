@@ -1,8 +1,7 @@
-use Prim.Native.Nat.{◌-◌}
 use native.Mathlib.Omega.{arith}
 use borrow.Author.Rules.{rules}
 use lib.Ieee.{nan_bits}
-use Rattle.nyquist.proofs.Scan.{Scanned, scan_begin, scan_taken, scan_left, scan_done}
+use Rattle.nyquist.proofs.Scan.{scan_begin, scan_taken, scan_left, scan_done}
 use Rattle.nyquist.proofs.least_square.Goals as goal
 use Rattle.nyquist.proofs.least_square.Goals.{then-square-least, else-square-least}
 

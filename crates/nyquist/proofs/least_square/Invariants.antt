@@ -1,9 +1,5 @@
 use Prim.Native.Nat.{◌-◌}
-use mathlib.Core.Logic.{⊎_elim}
-use native.Mathlib.Omega.{arith}
-use borrow.Author.Rules.{rules}
-use lib.Ieee.{nan_bits}
-use Rattle.nyquist.proofs.Scan.{Scanned, scan_begin, scan_taken, scan_left, scan_done}
+use Rattle.nyquist.proofs.Scan.{Scanned}
 use Rattle.nyquist.proofs.least_square.Given as goal
 
 abbrev pub invariant-loop-i : goal.invariant-loop-i

@@ -1,9 +1,5 @@
-use Prim.Native.Nat.{◌+◌, ◌/◌, ◌<◌}
 use mathlib.Core.Path.{sym, ◌∙◌}
-use native.Mathlib.Omega.{arith}
-use borrow.Author.Rules.{rules}
 use borrow.Author.Tests.{ltb-true, ltb-false}
-use lib.ListN.{length}
 use Rattle.panel.proofs.Decoded.{crossing_found, crossing_missing}
 use Rattle.panel.proofs.crossing.Goals as goal
 

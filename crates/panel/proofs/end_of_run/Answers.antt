@@ -1,9 +1,7 @@
-use Prim.Native.Nat.{◌-◌, ◌≤◌}
 use mathlib.Core.Path.{sym, ◌∙◌}
 use native.Mathlib.Omega.{arith}
 use borrow.Author.Rules.{rules}
-use Rattle.panel.specs.Scanning.{Scanning}
-use Rattle.panel.proofs.Scanning.{Aside, aside, scan_on}
+use Rattle.panel.proofs.Scanning.{scan_on}
 use Rattle.panel.proofs.end_of_run.Goals as goal
 
 pub loop-at-preserved : goal.loop-at-preserved

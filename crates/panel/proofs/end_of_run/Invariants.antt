@@ -1,10 +1,6 @@
 use Prim.Native.Nat.{◌-◌, ◌≤◌}
-use mathlib.Core.Path.{sym, ◌∙◌}
-use native.Mathlib.Omega.{arith}
-use borrow.Author.Rules.{rules}
-use borrow.Author.Tests.{not-false}
 use Rattle.panel.specs.Scanning.{Scanning}
-use Rattle.panel.proofs.Scanning.{Aside, aside, scan_on}
+use Rattle.panel.proofs.Scanning.{Aside}
 use Rattle.panel.proofs.end_of_run.Given as goal
 
 abbrev pub invariant-loop-at : goal.invariant-loop-at

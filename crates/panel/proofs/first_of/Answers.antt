@@ -1,8 +1,6 @@
-use Prim.Native.Nat.{◌-◌}
 use mathlib.Core.Path.{sym, ◌∙◌}
 use native.Mathlib.Omega.{arith}
 use borrow.Author.Rules.{rules}
-use Rattle.panel.specs.Scanning.{Scanning}
 use Rattle.panel.proofs.Scanning.{few, scanning, scan_hit, scan_next, scan_end}
 use Rattle.panel.proofs.first_of.Goals as goal
 

@@ -1,5 +1,4 @@
 use mathlib.Core.Path.{refl, ◌∙◌}
-use borrow.Author.Rules.{rules}
 use Rattle.wire.specs.Bytes.{f64_bytes}
 use Rattle.wire.proofs.Bytes.{overwritten_is}
 use Rattle.sweep.specs.Answer.{crossing_outcome}

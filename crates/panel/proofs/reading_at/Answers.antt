@@ -1,4 +1,3 @@
-use borrow.Author.Rules.{rules}
 use Rattle.panel.specs.Panel.{reading_at}
 use Rattle.panel.proofs.reading_at.Goals as goal
 

@@ -1,5 +1,4 @@
 use mathlib.Core.Path.{refl, ap}
-use borrow.Author.Rules.{rules}
 use Rattle.sweep.specs.Answer.{outcome_of, crossing_outcome}
 use Rattle.sweep.proofs.Answers.{scan_refused, scan_passed}
 use Rattle.sweep.proofs.Numbers.{let_through}

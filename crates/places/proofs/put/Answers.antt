@@ -1,5 +1,4 @@
 use mathlib.Core.Path.{refl}
-use borrow.Author.Rules.{rules}
 use Rattle.sweep.specs.Answer.{outcome_of}
 use Rattle.places.proofs.put.Goals as goal
 

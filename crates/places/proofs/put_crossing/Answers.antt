@@ -1,5 +1,4 @@
 use mathlib.Core.Path.{refl}
-use borrow.Author.Rules.{rules}
 use Rattle.sweep.specs.Answer.{crossing_outcome}
 use Rattle.places.proofs.put_crossing.Goals as goal
 

@@ -1,6 +1,5 @@
 use Rattle.sweep.specs.Answer.{kept_outcome}
 use mathlib.Core.Path.{refl}
-use borrow.Author.Rules.{rules}
 use Rattle.places.proofs.put_kept.Goals as goal
 
 pub returns-in-Found : goal.returns-in-Found

@@ -1,6 +1,5 @@
 use Rattle.complex.specs.Complex.{outcome_of}
 use mathlib.Core.Path.{refl}
-use borrow.Author.Rules.{rules}
 use Rattle.places.proofs.put_quotient.Goals as goal
 
 pub returns-in-Value : goal.returns-in-Value

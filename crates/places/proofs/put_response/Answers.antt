@@ -1,6 +1,5 @@
 use Rattle.transfer_fn.specs.Evaluation.{outcome_of}
 use mathlib.Core.Path.{refl}
-use borrow.Author.Rules.{rules}
 use Rattle.places.proofs.put_response.Goals as goal
 
 pub returns-in-Value : goal.returns-in-Value

@@ -1,6 +1,6 @@
-use Rattle.std.proofs.Common.{◌≡◌, ◌-◌, ◌≤◌, length, take, refl, ◌∙◌, arith, rules}
+use Rattle.std.proofs.Common.{◌≡◌, ◌-◌, length, take, refl, ◌∙◌, rules}
 use Rattle.laws.specs.Loops.{filled}
-use Rattle.laws.proofs.Loops.{filled_none, filled_more, length-filled, take-filled, length-up_to, arrived}
+use Rattle.laws.proofs.Loops.{filled_none, filled_more, take-filled, arrived}
 use Rattle.root_locus.specs.Roots.{quotient_at, monic}
 use Rattle.root_locus.proofs.Padding.{array_searched}
 use Rattle.root_locus.proofs.companion_matrix_roots.Goals as goal

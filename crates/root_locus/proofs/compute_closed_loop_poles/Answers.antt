@@ -1,5 +1,5 @@
-use Rattle.std.proofs.Common.{◌∙◌, arith, rules}
-use Rattle.laws.proofs.Loops.{take-filled, length-up_to}
+use Rattle.std.proofs.Common.{◌∙◌}
+use Rattle.laws.proofs.Loops.{take-filled}
 use Rattle.root_locus.specs.Polynomial.{loop_polynomial}
 use Rattle.root_locus.proofs.compute_closed_loop_poles.Goals as goal
 

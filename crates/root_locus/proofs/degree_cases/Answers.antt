@@ -1,4 +1,4 @@
-use Rattle.std.proofs.Common.{◌∙◌, arith, rules}
+use Rattle.std.proofs.Common.{◌∙◌, arith}
 use Rattle.root_locus.proofs.ByDegree.{case_none, case_linear, case_quadratic, case_cubic, case_searched}
 use Rattle.root_locus.proofs.degree_cases.Goals as goal
 

@@ -1,7 +1,6 @@
-use Rattle.std.proofs.Common.{◌≡◌, ◌-◌, refl, ◌∙◌, ⊎_elim, rules}
-use Rattle.laws.specs.Loops.{count_up}
+use Rattle.std.proofs.Common.{◌≡◌, refl, ◌∙◌}
 use Rattle.laws.proofs.Loops.{up_begin, up_next, up_end}
-use Rattle.root_locus.specs.Search.{factor, differences, move_root, one_round, Run, begun, run}
+use Rattle.root_locus.specs.Search.{differences, one_round, Run, begun, run}
 use Rattle.root_locus.specs.Roots.{searched_array}
 use Rattle.root_locus.proofs.Rounds.{factor_taken, factor_left, raised, kept, root_skipped, root_moved, round_more, round_last, rounds_done}
 use Rattle.root_locus.proofs.durand_kerner.Goals as goal
@@ -53,8 +52,7 @@ returns c =
     elim left.branch [
       | else-rounds-test w ↦ rw (w.z-is, w.used-is, w.last_change-is, inv.0) (rounds_done _ 200 _ inv.1 w.rounds-test.false)
       | then-rounds-test+else-roots-test+then-max_change w ↦
-        let e = up_end _ _ w.roots.invariant w.roots-test.false in
-        rw (w.z-is, w.used-is, w.last_change-is) (round_last _ 200 _ _ inv.1 w.rounds-test.true e w.if-max_change.true)
+          let e = up_end _ _ w.roots.invariant w.roots-test.false in
+          rw (w.z-is, w.used-is, w.last_change-is) (round_last _ 200 _ _ inv.1 w.rounds-test.true e w.if-max_change.true)
     ] in
     rw (c.unless_nan-ending.ensures, c.end_of-end.ensures, ← ran)
-

@@ -1,9 +1,6 @@
-use Rattle.std.proofs.Common.{◌≡◌, ◌-◌, refl, ◌∙◌, ⊎_elim, rules}
+use Rattle.std.proofs.Common.{◌≡◌, ◌-◌}
 use Rattle.laws.specs.Loops.{count_up}
-use Rattle.laws.proofs.Loops.{up_begin, up_next, up_end}
-use Rattle.root_locus.specs.Search.{factor, differences, move_root, one_round, Run, begun, run}
-use Rattle.root_locus.specs.Roots.{searched_array}
-use Rattle.root_locus.proofs.Rounds.{factor_taken, factor_left, raised, kept, root_skipped, root_moved, round_more, round_last, rounds_done}
+use Rattle.root_locus.specs.Search.{factor, differences, move_root, one_round, begun, run}
 use Rattle.root_locus.proofs.durand_kerner.Given as goal
 
 abbrev pub invariant-loop-j : goal.invariant-loop-j

@@ -1,8 +1,7 @@
-use Rattle.std.proofs.Common.{◌≡◌, ◌-◌, length, drop, refl, rules}
+use Rattle.std.proofs.Common.{refl, rules}
 use lib.Ieee.{nan}
-use Rattle.laws.specs.Loops.{push_all}
 use Rattle.root_locus.specs.Search.{horner, eval_poly}
-use Rattle.root_locus.proofs.Lists.{run_next, run_end}
+use Rattle.root_locus.proofs.Lists.{run_next}
 use Rattle.root_locus.proofs.eval_poly_complex.Goals as goal
 
 pub loop-k-init : goal.loop-k-init

@@ -1,8 +1,6 @@
-use Rattle.std.proofs.Common.{◌≡◌, ◌-◌, length, drop, refl, rules}
-use lib.Ieee.{nan}
+use Rattle.std.proofs.Common.{◌≡◌, ◌-◌, length, drop}
 use Rattle.laws.specs.Loops.{push_all}
 use Rattle.root_locus.specs.Search.{horner, eval_poly}
-use Rattle.root_locus.proofs.Lists.{run_next, run_end}
 use Rattle.root_locus.proofs.eval_poly_complex.Given as goal
 
 abbrev pub invariant-loop-k : goal.invariant-loop-k

@@ -1,8 +1,8 @@
-use Rattle.std.proofs.Common.{◌-◌, arith, rules}
+use Rattle.std.proofs.Common.{arith}
 use Rattle.sweep.proofs.Numbers.{let_through}
 use Rattle.sweep.proofs.Answers.{grid_filled, grid_refused}
-use Rattle.sweep.proofs.Grids.{Filling, roomy, fill_begin, fill_more, fill_done}
-use Rattle.root_locus.specs.Gain.{gain_at, gain_outcome, gain_grid}
+use Rattle.sweep.proofs.Grids.{roomy, fill_begin, fill_more, fill_done}
+use Rattle.root_locus.specs.Gain.{gain_outcome, gain_grid}
 use Rattle.root_locus.proofs.fill_gain_grid.Goals as goal
 
 pub loop-i-init : goal.loop-i-init

@@ -1,8 +1,6 @@
-use Rattle.std.proofs.Common.{◌-◌, arith, rules}
-use Rattle.sweep.proofs.Numbers.{let_through}
-use Rattle.sweep.proofs.Answers.{grid_filled, grid_refused}
-use Rattle.sweep.proofs.Grids.{Filling, roomy, fill_begin, fill_more, fill_done}
-use Rattle.root_locus.specs.Gain.{gain_at, gain_outcome, gain_grid}
+use Rattle.std.proofs.Common.{◌-◌}
+use Rattle.sweep.proofs.Grids.{Filling}
+use Rattle.root_locus.specs.Gain.{gain_at}
 use Rattle.root_locus.proofs.fill_gain_grid.Given as goal
 
 abbrev pub invariant-loop-i : goal.invariant-loop-i

@@ -1,4 +1,4 @@
-use Rattle.std.proofs.Common.{◌≡◌, ◌-◌, ◌≤◌, length, drop, sym, refl, ap, ◌∙◌, ⊎_elim, arith, length-drop, length-take, rules}
+use Rattle.std.proofs.Common.{◌≡◌, drop, sym, ap, ◌∙◌, rules}
 use Rattle.root_locus.specs.Polynomial.{counting}
 use Rattle.root_locus.specs.Roots.{degree_cases}
 use Rattle.root_locus.proofs.Coefficients.{counting_more, counting_here, counting_end, part_from}
@@ -18,4 +18,3 @@ returns c =
       | else-loop-start-test w ↦ counting_end p s w.loop-start-test.false
     ] in
     c.degree_cases.ensures ∙ ap degree_cases (part_from p s ∙ sym here ∙ c.loop-start.invariant.1)
-

@@ -1,5 +1,4 @@
-use Rattle.std.proofs.Common.{refl, arith, rules}
-use Rattle.sweep.proofs.Grids.{exact}
+use Rattle.std.proofs.Common.{refl}
 use Rattle.root_locus.specs.Gain.{gain_at}
 use Rattle.root_locus.proofs.gain_at.Goals as goal
 

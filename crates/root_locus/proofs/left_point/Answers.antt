@@ -1,4 +1,4 @@
-use Rattle.std.proofs.Common.{sym, ap, ◌∙◌, rules}
+use Rattle.std.proofs.Common.{sym, ap, ◌∙◌}
 use Rattle.root_locus.specs.declared.Roots.{Roots}
 use Rattle.root_locus.specs.Roots.{degree_cases}
 use Rattle.root_locus.specs.Locus.{point_of, found_point, left_point}

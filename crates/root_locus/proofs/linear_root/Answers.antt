@@ -1,4 +1,3 @@
-use Rattle.std.proofs.Common.{rules}
 use Rattle.root_locus.specs.Roots.{linear, padded, as_roots}
 use Rattle.root_locus.proofs.linear_root.Goals as goal
 

@@ -1,4 +1,4 @@
-use Rattle.std.proofs.Common.{◌∙◌, arith, rules}
+use Rattle.std.proofs.Common.{◌∙◌, arith}
 use Rattle.root_locus.proofs.Conditions.{let_pass, point_turned_away, point_let_through}
 use Rattle.root_locus.proofs.locus_point.Goals as goal
 

@@ -1,8 +1,6 @@
-use Rattle.std.proofs.Common.{◌≡◌, ◌-◌, ◌≤◌, rules}
+use Rattle.std.proofs.Common.{◌≡◌, ◌-◌, ◌≤◌}
 use Rattle.laws.specs.Loops.{filled}
-use Rattle.laws.proofs.Loops.{filled_none, filled_more, arrived}
 use Rattle.root_locus.specs.Polynomial.{coefficient, nine_zeros}
-use Rattle.root_locus.proofs.Coefficients.{coefficient_first, coefficient_middle, coefficient_last}
 use Rattle.root_locus.proofs.loop_polynomial.Given as goal
 
 abbrev pub invariant-loop-i : goal.invariant-loop-i

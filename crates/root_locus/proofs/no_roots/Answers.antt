@@ -1,4 +1,3 @@
-use Rattle.std.proofs.Common.{rules}
 use Rattle.root_locus.specs.Roots.{padded, no_roots}
 use Rattle.root_locus.proofs.no_roots.Goals as goal
 

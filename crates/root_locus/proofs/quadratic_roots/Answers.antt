@@ -1,4 +1,4 @@
-use Rattle.std.proofs.Common.{◌∙◌, rules}
+use Rattle.std.proofs.Common.{◌∙◌}
 use Rattle.root_locus.specs.Roots.{discriminant, real_pair, complex_pair, quadratic}
 use Rattle.root_locus.proofs.quadratic_roots.Goals as goal
 

@@ -1,4 +1,4 @@
-use Rattle.std.proofs.Common.{◌≡◌, ℕ, ◌-◌, ◌≤◌, min, length, take, drop, ap, ⊎_elim, arith, rules}
+use Rattle.std.proofs.Common.{◌≡◌, ℕ, min, length, take, ap, arith, rules}
 use Rattle.root_locus.specs.Stability.{none_outside, stable}
 use Rattle.root_locus.proofs.Poles.{pole_inside, pole_outside, poles_done}
 use Rattle.root_locus.proofs.stability_region.Goals as goal

@@ -1,6 +1,5 @@
-use Rattle.std.proofs.Common.{◌≡◌, ℕ, ◌-◌, ◌≤◌, min, length, take, drop, ap, ⊎_elim, arith, rules}
+use Rattle.std.proofs.Common.{◌≡◌, ◌-◌, ◌≤◌, length, take, drop}
 use Rattle.root_locus.specs.Stability.{none_outside, stable}
-use Rattle.root_locus.proofs.Poles.{pole_inside, pole_outside, poles_done}
 use Rattle.root_locus.proofs.stability_region.Given as goal
 
 abbrev pub invariant-loop-i : goal.invariant-loop-i

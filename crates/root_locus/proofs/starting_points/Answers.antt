@@ -1,4 +1,4 @@
-use Rattle.std.proofs.Common.{◌≡◌, ◌-◌, ◌≤◌, ◌∙◌, rules}
+use Rattle.std.proofs.Common.{◌∙◌, rules}
 use Rattle.laws.specs.Loops.{filled}
 use Rattle.laws.proofs.Loops.{filled_none, filled_more, arrived}
 use Rattle.root_locus.specs.StartingPoints.{pair, start_table, starting_point, starting_points, as_complex}

@@ -1,8 +1,7 @@
-use Rattle.std.proofs.Common.{◌≡◌, ◌-◌, ◌≤◌, ◌∙◌, rules}
+use Rattle.std.proofs.Common.{◌≡◌, ◌-◌, ◌≤◌}
 use Rattle.laws.specs.Loops.{filled}
-use Rattle.laws.proofs.Loops.{filled_none, filled_more, arrived}
-use Rattle.root_locus.specs.StartingPoints.{pair, start_table, starting_point, starting_points, as_complex}
-use Rattle.root_locus.proofs.Padding.{eight_zeros, filled_padded}
+use Rattle.root_locus.specs.StartingPoints.{starting_point}
+use Rattle.root_locus.proofs.Padding.{eight_zeros}
 use Rattle.root_locus.proofs.starting_points.Given as goal
 
 abbrev pub invariant-loop-i : goal.invariant-loop-i

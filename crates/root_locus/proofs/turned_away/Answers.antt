@@ -1,4 +1,3 @@
-use Rattle.std.proofs.Common.{rules}
 use Rattle.root_locus.specs.Roots.{padded}
 use Rattle.root_locus.specs.Locus.{point_of, no_point}
 use Rattle.root_locus.proofs.turned_away.Goals as goal

@@ -1,4 +1,3 @@
-use Rattle.std.proofs.Common.{rules}
 use Rattle.root_locus.specs.Roots.{padded, as_roots}
 use Rattle.root_locus.proofs.two_roots.Goals as goal
 

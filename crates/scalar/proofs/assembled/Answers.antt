@@ -4,7 +4,6 @@ use Prim.Native.Nat.{◌+◌, ◌*◌, ◌/◌, ◌^◌}
 use native.Mathlib.Omega.{arith}
 use lib.Ieee.{binary64, of_bits, units}
 use Rattle.scalar.proofs.Patterns.{write, no_nan}
-use borrow.Author.Rules.{rules}
 use Rattle.scalar.proofs.assembled.Goals as goal
 
 written : (c : goal.Start) → of_bits binary64 (c.args.exponent / 2 * 2 ^ 52 + c.args.q) ≡ units binary64 false c.args.q (c.args.exponent / 2)

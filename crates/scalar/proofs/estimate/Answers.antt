@@ -1,6 +1,5 @@
 use Prim.Native.Nat.{◌+◌, ◌*◌, ◌/◌, ◌^◌}
 use native.Mathlib.Omega.{arith}
-use borrow.Author.Rules.{rules}
 use Rattle.scalar.proofs.Heron.{chord, tangent}
 use Rattle.scalar.proofs.estimate.Goals as goal
 

@@ -1,7 +1,6 @@
 use Prim.Native.Nat.{ℕ, ◌-◌, ◌*◌, ◌/◌, ◌%◌, ◌^◌, ◌≤◌, ◌<◌}
 use native.Mathlib.Nat.{mul-le-mul}
 use native.Mathlib.Omega.{arith}
-use borrow.Author.Rules.{rules}
 use Rattle.scalar.proofs.guess.Goals as goal
 
 -- Every product fits, by the sizes of its factors, and no difference is negative.

@@ -1,6 +1,3 @@
-use native.Mathlib.Nat.{div-le_self}
-use native.Mathlib.Omega.{arith}
-use borrow.Author.Rules.{rules}
 use Rattle.scalar.proofs.Heron.{heron_above, heron_near}
 use Rattle.scalar.proofs.heron_step.Goals as goal
 

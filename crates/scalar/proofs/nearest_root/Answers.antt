@@ -1,9 +1,6 @@
 use mathlib.Core.Path.{◌≡◌, ap}
-use Prim.Native.Nat.{ℕ, ◌-◌, ◌*◌, ◌%◌, ◌^◌, ◌≤◌, ◌<◌}
-use native.Mathlib.Nat.{mul-le-mul}
+use Prim.Native.Nat.{ℕ, ◌-◌, ◌*◌, ◌%◌, ◌^◌}
 use native.Mathlib.Omega.{arith}
-use borrow.Author.Rules.{rules}
-use Rattle.scalar.proofs.WholeRoot.{square_lt}
 use Rattle.scalar.proofs.Heron.{s_high}
 use Rattle.scalar.proofs.nearest_root.Goals as goal
 

@@ -1,5 +1,4 @@
-use Prim.Native.Nat.{◌≤◌, ◌<◌, ◌*◌, ◌-◌, ◌^◌}
-use mathlib.Core.Path.{◌≡◌}
+use Prim.Native.Nat.{◌≤◌, ◌<◌}
 use native.Mathlib.Omega.{arith}
 use Rattle.scalar.proofs.Squares.{moved, still_high}
 use Rattle.scalar.proofs.normalized.Goals as goal

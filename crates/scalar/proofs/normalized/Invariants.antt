@@ -1,7 +1,5 @@
 use Prim.Native.Nat.{◌≤◌, ◌<◌, ◌*◌, ◌-◌, ◌^◌}
 use mathlib.Core.Path.{◌≡◌}
-use native.Mathlib.Omega.{arith}
-use Rattle.scalar.proofs.Squares.{moved, still_high}
 use Rattle.scalar.proofs.normalized.Given as goal
 
 -- The loop keeps the number, and its exponent stays high: the number is 2 ^ 1022 at least, and the significand below 2 ^ 53.

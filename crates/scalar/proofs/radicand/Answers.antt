@@ -1,7 +1,6 @@
 use mathlib.Core.Path.{◌≡◌, sym, ap, ◌∙◌}
 use Prim.Native.Nat.{ℕ, suc, ◌+◌, ◌-◌, ◌*◌, ◌/◌, ◌%◌, ◌^◌}
 use native.Mathlib.Omega.{arith}
-use borrow.Author.Rules.{rules}
 use Rattle.scalar.specs.Sqrt.{rounded}
 use Rattle.scalar.proofs.Squares.{shifted}
 use Rattle.scalar.proofs.Patterns.{sqrt_low, sqrt_normal}

@@ -1,6 +1,4 @@
-use native.Mathlib.Omega.{arith}
-use borrow.Author.Rules.{rules}
-use Rattle.scalar.proofs.Heron.{Seed, seed, second}
+use Rattle.scalar.proofs.Heron.{seed, second}
 use Rattle.scalar.proofs.root_above.Goals as goal
 
 -- Two steps of Heron's method.

@@ -1,5 +1,4 @@
 use native.Mathlib.Omega.{arith}
-use borrow.Author.Rules.{rules}
 use Rattle.scalar.proofs.Heron.{Last, last, at_root, before_root}
 use Rattle.scalar.proofs.rounded_root.Goals as goal
 

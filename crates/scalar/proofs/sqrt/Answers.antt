@@ -1,13 +1,9 @@
-use mathlib.Core.Path.{◌≡◌, sym, ap, ◌∙◌, subst}
-use Prim.Native.Nat.{ℕ, ◌*◌, ◌/◌, ◌^◌}
-use native.Mathlib.Omega.{arith}
-use borrow.Author.Rules.{rules}
+use mathlib.Core.Path.{sym, ◌∙◌, subst}
+use Prim.Native.Nat.{◌*◌, ◌^◌}
 use borrow.Author.Tests.{lt-ltb, le-ltb}
-use lib.Dec.{T, ltb}
+use lib.Dec.{T}
 use lib.Ieee.{binary64, to_bits}
-use lib.Ieee.Positive.{positive}
-use Rattle.scalar.specs.Sqrt.{rounded}
-use Rattle.scalar.proofs.Cases.{above_number, ordinary_if, ordinary_not}
+use Rattle.scalar.proofs.Cases.{ordinary_if, ordinary_not}
 use Rattle.scalar.proofs.sqrt.Goals as goal
 
 -- above zero the bits tell whether x is finite

@@ -1,4 +1,3 @@
-use borrow.Author.Rules.{rules}
 use Rattle.sensitivity.specs.Scans.{drop_between}
 use Rattle.sensitivity.proofs.drop_between.Goals as goal
 

@@ -1,4 +1,3 @@
-use borrow.Author.Rules.{rules}
 use Rattle.sensitivity.specs.Scans.{level_of, bandwidth_of}
 use Rattle.sensitivity.proofs.drop_crossing.Goals as goal
 

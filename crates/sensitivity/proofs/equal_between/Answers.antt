@@ -1,4 +1,3 @@
-use borrow.Author.Rules.{rules}
 use Rattle.sensitivity.specs.Scans.{equal_between}
 use Rattle.sensitivity.proofs.equal_between.Goals as goal
 

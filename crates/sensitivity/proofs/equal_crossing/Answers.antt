@@ -1,7 +1,4 @@
-use Prim.Native.Nat.{◌+◌, ◌<◌}
 use mathlib.Core.Path.{refl, sym, ◌∙◌}
-use native.Mathlib.Omega.{arith}
-use borrow.Author.Rules.{rules}
 use borrow.Author.Tests.{ltb-true, ltb-false}
 use lib.ListN.{length}
 use Rattle.sweep.proofs.Scans.{scan_found, scan_missing}

@@ -1,11 +1,6 @@
-use Prim.Native.Nat.{◌≤◌, ◌-◌}
-use mathlib.Core.Path.{◌≡◌, sym, ◌∙◌}
+use mathlib.Core.Path.{sym, ◌∙◌}
 use native.Mathlib.Omega.{arith}
-use borrow.Author.Rules.{rules}
-use lib.ListN.{length}
-use Rattle.sweep.specs.Scan.{first_where}
-use Rattle.sweep.proofs.Search.{search_begin, search_next, search_hit, search_end_lem}
-use Rattle.sensitivity.specs.Scans.{equal_at}
+use Rattle.sweep.proofs.Search.{search_next, search_hit, search_end_lem}
 use Rattle.sensitivity.proofs.first_equal.Goals as goal
 
 pub returns-then-crosses : goal.returns-then-crosses

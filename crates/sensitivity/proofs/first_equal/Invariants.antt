@@ -1,10 +1,7 @@
 use Prim.Native.Nat.{◌≤◌, ◌-◌}
-use mathlib.Core.Path.{◌≡◌, sym, ◌∙◌}
-use native.Mathlib.Omega.{arith}
-use borrow.Author.Rules.{rules}
+use mathlib.Core.Path.{◌≡◌}
 use lib.ListN.{length}
 use Rattle.sweep.specs.Scan.{first_where}
-use Rattle.sweep.proofs.Search.{search_begin, search_next, search_hit, search_end_lem}
 use Rattle.sensitivity.specs.Scans.{equal_at}
 use Rattle.sensitivity.proofs.first_equal.Given as goal
 

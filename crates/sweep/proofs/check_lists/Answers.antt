@@ -1,4 +1,3 @@
-use borrow.Author.Rules.{rules}
 use Rattle.sweep.specs.Refusal.{lists_refusal}
 use Rattle.sweep.proofs.check_lists.Goals as goal
 

@@ -1,6 +1,3 @@
-use mathlib.Core.Path.{◌≡◌}
-use mathlib.Core.Bool.{Bool, true, false, ◌&&◌, ◌||◌}
-use mathlib.Core.Logic.{inl, inr}
 use Rattle.sweep.proofs.Sides.{product_above, nan_crosses_none}
 use Rattle.sweep.proofs.crosses_zero.Goals as goal
 

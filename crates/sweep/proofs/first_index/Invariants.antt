@@ -1,10 +1,7 @@
 use Prim.Native.Nat.{◌≤◌, ◌-◌}
-use mathlib.Core.Path.{◌≡◌, sym, ◌∙◌}
-use native.Mathlib.Omega.{arith}
-use borrow.Author.Rules.{rules}
+use mathlib.Core.Path.{◌≡◌}
 use lib.ListN.{length}
 use Rattle.sweep.specs.Scan.{first_where, crosses_at, first_index}
-use Rattle.sweep.proofs.Search.{search_begin, search_next, search_hit, search_end_lem}
 use Rattle.sweep.proofs.first_index.Given as goal
 
 abbrev pub invariant-loop-i : goal.invariant-loop-i

@@ -1,4 +1,3 @@
-use borrow.Author.Rules.{rules}
 use Rattle.sweep.specs.Answer.{outcome_of, crossing_outcome}
 use Rattle.sweep.proofs.found.Goals as goal
 

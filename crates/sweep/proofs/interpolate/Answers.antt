@@ -1,4 +1,3 @@
-use borrow.Author.Rules.{rules}
 use Rattle.sweep.specs.Scan.{between}
 use Rattle.sweep.proofs.interpolate.Goals as goal
 

@@ -1,4 +1,3 @@
-use borrow.Author.Rules.{rules}
 use Rattle.sweep.specs.Answer.{kept_of}
 use Rattle.sweep.proofs.kept_of.Goals as goal
 

@@ -1,6 +1,5 @@
 use mathlib.Core.Path.{sym}
 use native.Mathlib.Omega.{arith}
-use borrow.Author.Rules.{rules}
 use Rattle.laws.proofs.Outcome.{answered_found}
 use Rattle.sweep.proofs.Numbers.{turned_away, let_through}
 use Rattle.transfer_fn.specs.Evaluation.{outcome_of_both, evaluation_of_both}

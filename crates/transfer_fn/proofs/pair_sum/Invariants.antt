@@ -1,10 +1,7 @@
 use Prim.Native.Nat.{◌≤◌, ◌-◌}
-use mathlib.Core.Path.{◌≡◌, refl}
-use borrow.Author.Rules.{rules}
-use Rattle.laws.proofs.Loops.{arrived}
+use mathlib.Core.Path.{◌≡◌}
 use Rattle.scalar.specs.Scalar.{f0}
-use Rattle.transfer_fn.specs.Evaluation.{sum_up, term_of, pair_sum}
-use Rattle.transfer_fn.proofs.Sums.{sum_none, sum_more}
+use Rattle.transfer_fn.specs.Evaluation.{sum_up, term_of}
 use Rattle.transfer_fn.proofs.pair_sum.Given as goal
 
 abbrev pub invariant-loop-k : goal.invariant-loop-k

@@ -1,5 +1,3 @@
-use native.Mathlib.Omega.{arith}
-use borrow.Author.Rules.{rules}
 use Rattle.transfer_fn.specs.Evaluation.{numerator, denominator, value_at}
 use Rattle.transfer_fn.proofs.value_at.Goals as goal
 

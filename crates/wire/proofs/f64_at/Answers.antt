@@ -1,4 +1,3 @@
-use borrow.Author.Rules.{rules}
 use Rattle.wire.specs.Bytes.{f64_at}
 use Rattle.wire.proofs.f64_at.Goals as goal
 

@@ -1,8 +1,8 @@
-use Prim.Native.Nat.{◌≤◌, ◌-◌, ◌%◌}
-use mathlib.Core.Path.{◌≡◌, refl, ◌∙◌}
+use Prim.Native.Nat.{◌%◌}
+use mathlib.Core.Path.{◌∙◌}
 use borrow.Author.Rules.{rules}
-use lib.ListN.{length, length-set}
-use lib.Seq.{sets, sets-eq}
+use lib.ListN.{length-set}
+use lib.Seq.{sets-eq}
 use Rattle.wire.specs.Bytes.{le_bytes}
 use Rattle.wire.proofs.Bytes.{length-le_bytes, write_next, write_end}
 use Rattle.wire.proofs.put_u64.Goals as goal

@@ -1,9 +1,8 @@
-use Prim.Native.Nat.{◌≤◌, ◌-◌, ◌%◌}
-use mathlib.Core.Path.{◌≡◌, refl, ◌∙◌}
-use lib.ListN.{length, length-set}
-use lib.Seq.{sets, sets-eq}
+use Prim.Native.Nat.{◌≤◌, ◌-◌}
+use mathlib.Core.Path.{◌≡◌}
+use lib.ListN.{length}
+use lib.Seq.{sets}
 use Rattle.wire.specs.Bytes.{le_bytes}
-use Rattle.wire.proofs.Bytes.{length-le_bytes, write_next, write_end}
 use Rattle.wire.proofs.put_u64.Given as goal
 
 abbrev pub invariant-loop-i : goal.invariant-loop-i

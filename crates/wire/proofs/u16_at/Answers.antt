@@ -1,6 +1,5 @@
 use native.Mathlib.Numerals.{add-one}
 use native.Mathlib.Omega.{arith}
-use borrow.Author.Rules.{rules}
 use Rattle.wire.specs.Bytes.{little_endian}
 use Rattle.wire.proofs.u16_at.Goals as goal
 

@@ -1,5 +1,4 @@
 use native.Mathlib.Omega.{arith}
-use borrow.Author.Rules.{rules}
 use Rattle.wire.proofs.Bytes.{in_parts}
 use Rattle.wire.proofs.u32_at.Goals as goal
 

@@ -1,4 +1,3 @@
-use borrow.Author.Rules.{rules}
 use Rattle.sweep.specs.Answer.{outcome_of_grid}
 use Rattle.c_api.proofs.grids.grid_number.Goals as goal
 

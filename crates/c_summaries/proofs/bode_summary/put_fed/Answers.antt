@@ -2,7 +2,6 @@ use Rattle.bode.specs.Summary.{number_of_fed, left_by}
 use Rattle.c_summaries.specs.Fed.{fed_bode}
 use Rattle.sweep.specs.Runs.{left_after}
 use Rattle.sweep.proofs.Runs.{left_refused}
-use borrow.Author.Rules.{rules}
 use Rattle.c_summaries.proofs.bode_summary.put_fed.Goals as goal
 
 pub returns-in-Taken : goal.returns-in-Taken

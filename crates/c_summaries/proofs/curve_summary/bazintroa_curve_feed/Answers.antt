@@ -1,5 +1,4 @@
 use mathlib.Core.Path.{◌∙◌}
-use borrow.Author.Rules.{rules}
 use Rattle.nyquist.specs.Plain.{plain_of}
 use Rattle.sweep.proofs.Runs.{left_once}
 use Rattle.c_summaries.specs.Fed.{fed_curve}

@@ -1,4 +1,3 @@
-use borrow.Author.Rules.{rules}
 use Rattle.complex.specs.Complex.{small, ratio, outcome_of, quotient}
 use Rattle.complex.proofs.Complex.divide.Goals as goal
 

@@ -1,6 +1,4 @@
-use mathlib.Core.Path.{sym, ap, ◌∙◌}
-use borrow.Author.Rules.{rules}
-use Rattle.complex.specs.Complex.{outcome_of}
+use mathlib.Core.Path.{◌∙◌}
 use Rattle.complex.proofs.Quotients.{value_is, nothing_is}
 use Rattle.complex.proofs.Complex.divide_or_zero.Goals as goal
 

@@ -1,5 +1,4 @@
 use Rattle.complex.specs.Complex.{magnitude_of, magnitude_sq}
-use borrow.Author.Rules.{rules}
 use Rattle.complex.proofs.Complex.magnitude.Goals as goal
 
 pub returns : goal.returns

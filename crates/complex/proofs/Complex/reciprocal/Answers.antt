@@ -1,4 +1,3 @@
-use borrow.Author.Rules.{rules}
 use Rattle.complex.specs.Complex.{small, inverse, outcome_of, reciprocal_of}
 use Rattle.complex.proofs.Complex.reciprocal.Goals as goal
 

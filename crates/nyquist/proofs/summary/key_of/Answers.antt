@@ -1,5 +1,4 @@
 use mathlib.Core.Path.{sym, ap, ◌∙◌}
-use borrow.Author.Rules.{rules}
 use lib.Ieee.{nan_bits}
 use Rattle.complex.specs.Complex.{new_of}
 use Rattle.nyquist.specs.Summary.{key_of}

@@ -1,4 +1,3 @@
-use borrow.Author.Rules.{rules}
 use Rattle.laws.specs.Choice.{lesser}
 use Rattle.nyquist.proofs.summary.nearer.Goals as goal
 

@@ -1,8 +1,7 @@
-use Prim.Native.Nat.{◌-◌}
 use native.Mathlib.Omega.{arith}
 use borrow.Author.Rules.{rules}
 use lib.Ieee.{nan_bits}
-use Rattle.nyquist.proofs.Nearing.{Nearing, nearing_begin, nearing_taken, nearing_left, nearing_found, nearing_none}
+use Rattle.nyquist.proofs.Nearing.{nearing_begin, nearing_taken, nearing_left, nearing_found, nearing_none}
 use Rattle.nyquist.proofs.summary.nearest_in.Goals as goal
 use Rattle.nyquist.proofs.summary.nearest_in.Goals.{then-square-least, else-square-least}
 

@@ -1,9 +1,5 @@
 use Prim.Native.Nat.{◌-◌}
-use mathlib.Core.Logic.{⊎_elim}
-use native.Mathlib.Omega.{arith}
-use borrow.Author.Rules.{rules}
-use lib.Ieee.{nan_bits}
-use Rattle.nyquist.proofs.Nearing.{Nearing, nearing_begin, nearing_taken, nearing_left, nearing_found, nearing_none}
+use Rattle.nyquist.proofs.Nearing.{Nearing}
 use Rattle.nyquist.proofs.summary.nearest_in.Given as goal
 
 abbrev pub invariant-loop-i : goal.invariant-loop-i

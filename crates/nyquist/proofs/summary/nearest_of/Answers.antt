@@ -1,8 +1,6 @@
-use Prim.Native.Nat.{◌-◌}
-use mathlib.Core.Path.{◌∙◌}
 use native.Mathlib.Omega.{arith}
 use borrow.Author.Rules.{rules}
-use Rattle.nyquist.proofs.Blocks.{Blocks, blocks_begin, parts_same, blocks_taken, blocks_left, blocks_done}
+use Rattle.nyquist.proofs.Blocks.{blocks_begin, blocks_taken, blocks_left}
 use Rattle.nyquist.proofs.summary.nearest_of.Goals as goal
 
 pub loop-i-init : goal.loop-i-init

@@ -1,8 +1,5 @@
 use Prim.Native.Nat.{◌-◌}
-use mathlib.Core.Path.{◌∙◌}
-use native.Mathlib.Omega.{arith}
-use borrow.Author.Rules.{rules}
-use Rattle.nyquist.proofs.Blocks.{Blocks, blocks_begin, parts_same, blocks_taken, blocks_left, blocks_done}
+use Rattle.nyquist.proofs.Blocks.{Blocks}
 use Rattle.nyquist.proofs.summary.nearest_of.Given as goal
 
 abbrev pub invariant-loop-i : goal.invariant-loop-i

@@ -1,7 +1,5 @@
-use Rattle.std.proofs.Common.{◌≡◌, ◌-◌, ◌≤◌, length, take, drop, sym, refl, ◌∙◌, rules}
-use Rattle.laws.proofs.Order.{ne_itself}
+use Rattle.std.proofs.Common.{◌≡◌, ◌-◌, ◌≤◌, length, take, drop}
 use Rattle.root_locus.specs.Ending.{some_nan}
-use Rattle.root_locus.proofs.Nans.{numbers_next, nan_re, nan_im, numbers_done}
 use Rattle.root_locus.proofs.ending.some_nan.Given as goal
 
 abbrev pub invariant-loop-i : goal.invariant-loop-i

@@ -1,4 +1,3 @@
-use Rattle.std.proofs.Common.{rules}
 use Rattle.root_locus.specs.Ending.{unless_nan}
 use Rattle.root_locus.proofs.ending.unless_nan.Goals as goal
 

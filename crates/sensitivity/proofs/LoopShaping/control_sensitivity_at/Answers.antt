@@ -1,4 +1,3 @@
-use borrow.Author.Rules.{rules}
 use Rattle.transfer_fn.specs.Evaluation.{evaluation_of_both}
 use Rattle.transfer_fn.proofs.Laws.{of_values, of_refused}
 use Rattle.sensitivity.specs.Responses.{control_sensitivity, response_by}

@@ -1,4 +1,3 @@
-use borrow.Author.Rules.{rules}
 use Rattle.sweep.specs.Answer.{or_kept}
 use Rattle.sensitivity.proofs.summary.bandwidth_from.Goals as goal
 

@@ -1,5 +1,4 @@
 use mathlib.Core.Path.{sym, ◌∙◌}
-use borrow.Author.Rules.{rules}
 use Rattle.sensitivity.specs.Scans.{drop_pair}
 use Rattle.sensitivity.proofs.summary.drop_pair.Goals as goal
 

@@ -1,4 +1,3 @@
-use borrow.Author.Rules.{rules}
 use Rattle.bode.specs.Bode.{gain_crossover, phase_crossover}
 use Rattle.bode.specs.Summary.{summary_of}
 use Rattle.bode.proofs.summary.BodeSummary.empty.Goals as goal

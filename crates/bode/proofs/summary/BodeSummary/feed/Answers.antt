@@ -1,4 +1,3 @@
-use borrow.Author.Rules.{rules}
 use Rattle.sweep.proofs.Numbers.{let_through}
 use Rattle.sweep.proofs.Conditions.{same_length}
 use Rattle.sweep.proofs.Runs.{feed_refused, feed_taken}

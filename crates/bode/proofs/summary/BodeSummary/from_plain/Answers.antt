@@ -1,4 +1,3 @@
-use borrow.Author.Rules.{rules}
 use Rattle.bode.specs.Plain.{from_plain}
 use Rattle.bode.proofs.summary.BodeSummary.from_plain.Goals as goal
 

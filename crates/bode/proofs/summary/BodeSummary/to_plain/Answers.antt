@@ -1,4 +1,3 @@
-use borrow.Author.Rules.{rules}
 use Rattle.bode.specs.Plain.{plain_of}
 use Rattle.bode.proofs.summary.BodeSummary.to_plain.Goals as goal
 

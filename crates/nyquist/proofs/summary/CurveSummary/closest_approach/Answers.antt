@@ -1,4 +1,3 @@
-use borrow.Author.Rules.{rules}
 use Rattle.nyquist.specs.Summary.{approach_answer}
 use Rattle.nyquist.proofs.summary.CurveSummary.closest_approach.Goals as goal
 

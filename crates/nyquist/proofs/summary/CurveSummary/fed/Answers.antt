@@ -1,4 +1,3 @@
-use borrow.Author.Rules.{rules}
 use Rattle.nyquist.specs.Summary.{summary_of, behind, fed_by}
 use Rattle.nyquist.proofs.summary.CurveSummary.fed.Goals as goal
 

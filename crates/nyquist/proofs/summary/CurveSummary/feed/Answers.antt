@@ -1,4 +1,3 @@
-use borrow.Author.Rules.{rules}
 use borrow.Author.Tests.{eqb-true}
 use Rattle.sweep.proofs.Numbers.{let_through}
 use Rattle.sweep.proofs.Conditions.{scan_taken}

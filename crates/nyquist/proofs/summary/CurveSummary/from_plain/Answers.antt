@@ -1,5 +1,4 @@
 use Rattle.nyquist.specs.Plain.{from_plain}
-use borrow.Author.Rules.{rules}
 use Rattle.nyquist.proofs.summary.CurveSummary.from_plain.Goals as goal
 
 pub returns : goal.returns

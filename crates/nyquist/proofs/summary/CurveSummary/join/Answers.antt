@@ -1,4 +1,3 @@
-use borrow.Author.Rules.{rules}
 use Rattle.nyquist.specs.Summary.{behind, join_of}
 use Rattle.nyquist.proofs.summary.CurveSummary.join.Goals as goal
 

@@ -1,5 +1,4 @@
 use Rattle.nyquist.specs.Plain.{plain_of}
-use borrow.Author.Rules.{rules}
 use Rattle.nyquist.proofs.summary.CurveSummary.to_plain.Goals as goal
 
 pub returns : goal.returns

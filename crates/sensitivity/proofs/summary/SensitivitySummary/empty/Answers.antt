@@ -1,4 +1,3 @@
-use borrow.Author.Rules.{rules}
 use Rattle.sweep.specs.Answer.{kept_of}
 use Rattle.sensitivity.specs.Scans.{sensitivity_crossover, bandwidth_of}
 use Rattle.sensitivity.specs.Summary.{bandwidth_under, summary_of}

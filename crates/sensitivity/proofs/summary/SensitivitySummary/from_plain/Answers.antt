@@ -1,4 +1,3 @@
-use borrow.Author.Rules.{rules}
 use Rattle.sensitivity.specs.Plain.{from_plain}
 use Rattle.sensitivity.proofs.summary.SensitivitySummary.from_plain.Goals as goal
 

@@ -1,4 +1,3 @@
-use borrow.Author.Rules.{rules}
 use Rattle.sensitivity.specs.Summary.{join_of}
 use Rattle.sensitivity.proofs.summary.SensitivitySummary.join.Goals as goal
 

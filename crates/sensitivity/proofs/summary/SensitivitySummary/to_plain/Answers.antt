@@ -1,4 +1,3 @@
-use borrow.Author.Rules.{rules}
 use Rattle.sensitivity.specs.Plain.{plain_of}
 use Rattle.sensitivity.proofs.summary.SensitivitySummary.to_plain.Goals as goal
 
