@@ -1,16 +1,18 @@
 // The lines that the program writes.
+use std::io;
+use std::io::{Print, Write};
 
 // What a place holds before a call.
 pub(crate) const MARK: f64 = -7.25;
 
 // Whether a call gave what is expected.
-pub(crate) fn verdict(name: &[u8], right: bool) {
-    io::write_all(1, b"bazintroa_");
-    io::write_all(1, name);
+pub(crate) fn verdict(rt: &impl Print, name: &[u8], right: bool) -> io::Result<()> {
+    print!(rt; "bazintroa_")?;
+    io::writer(rt).write_all(name)?;
     if right {
-        io::write_all(1, b": as expected\n");
+        println!(rt; ": as expected")
     } else {
-        io::write_all(1, b": NOT as expected\n");
+        println!(rt; ": NOT as expected")
     }
 }
 
@@ -33,38 +35,63 @@ fn first_other(x: &[f64], y: &[f64]) -> usize {
 }
 
 // A number and places, each with what is expected; where they differ, what they are.
-pub(crate) fn list(name: &[u8], number: u32, is: u32, places: &[f64], are: &[f64]) {
+pub(crate) fn list(
+    rt: &impl Print,
+    name: &[u8],
+    number: u32,
+    is: u32,
+    places: &[f64],
+    are: &[f64],
+) -> io::Result<()> {
     let other = first_other(places, are);
     let right = (number == is) & (other == 16);
-    verdict(name, right);
+    verdict(rt, name, right)?;
     if !right {
-        io::write_all(1, b"    number ");
-        io::print_decimal(1, number as u64);
-        io::write_all(1, b", place ");
-        io::print_decimal(1, other as u64);
-        io::write_all(1, b" holds ");
-        io::print_hex(1, bits_at(places, other), 16);
-        io::write_all(1, b"\n");
+        let bits = bits_at(places, other);
+        println!(rt; "    number {number}, place {other} holds {bits:016x}")?;
     }
+    Ok(())
 }
 
-pub(crate) fn real(name: &[u8], number: u32, is: u32, x: f64, expected: f64) {
-    list(name, number, is, &[x], &[expected]);
+pub(crate) fn real(
+    rt: &impl Print,
+    name: &[u8],
+    number: u32,
+    is: u32,
+    x: f64,
+    expected: f64,
+) -> io::Result<()> {
+    list(rt, name, number, is, &[x], &[expected])
 }
 
-pub(crate) fn complex(name: &[u8], number: u32, is: u32, z: [f64; 2], expected: [f64; 2]) {
-    list(name, number, is, &z, &expected);
+pub(crate) fn complex(
+    rt: &impl Print,
+    name: &[u8],
+    number: u32,
+    is: u32,
+    z: [f64; 2],
+    expected: [f64; 2],
+) -> io::Result<()> {
+    list(rt, name, number, is, &z, &expected)
 }
 
-pub(crate) fn poles(name: &[u8], number: u32, is: u32, parts: [f64; 16], expected: [f64; 16]) {
-    list(name, number, is, &parts, &expected);
+pub(crate) fn poles(
+    rt: &impl Print,
+    name: &[u8],
+    number: u32,
+    is: u32,
+    parts: [f64; 16],
+    expected: [f64; 16],
+) -> io::Result<()> {
+    list(rt, name, number, is, &parts, &expected)
 }
 
 // A comparison that finds nothing is found here.
-pub(crate) fn tell_apart() {
+pub(crate) fn tell_apart(rt: &impl Print) -> io::Result<()> {
     let last = first_other(&[1.0, 2.0], &[1.0, 3.0]);
     let sign = first_other(&[0.0], &[-0.0]);
     if (last == 1) & (sign == 0) {
-        io::write_all(1, b"lists that differ: told apart\n");
+        println!(rt; "lists that differ: told apart")?;
     }
+    Ok(())
 }

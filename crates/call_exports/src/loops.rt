@@ -1,6 +1,8 @@
 // Transfer functions: their values, the responses of a loop, points of the root locus.
 use super::lines;
 use c_api::{locus, responses};
+use std::io;
+use std::io::Print;
 
 // Two coefficients, and numbers behind them that are not to be read.
 fn two(first: f64, second: f64) -> [f64; 8] {
@@ -8,21 +10,21 @@ fn two(first: f64, second: f64) -> [f64; 8] {
 }
 
 // At a quarter turn a sample the pairs are (1,-0), (0,-1), (-1,-0). Order 1, b 5, a 2: 5/(1-2j) = 1+2j. Order 9: 16.
-fn value() {
+fn value(rt: &impl Print) -> io::Result<()> {
     let b = two(5.0, 9.0);
     let a = two(2.0, 9.0);
     let cosines = [1.0, 0.0];
     let sines = [-0.0, -1.0];
     let mut out = [lines::MARK; 2];
     let number = responses::bazintroa_eval_tf_complex(&b, &a, 1, &cosines, &sines, &mut out);
-    lines::complex(b"eval_tf_complex", number, 0, out, [1.0, 2.0]);
+    lines::complex(rt, b"eval_tf_complex", number, 0, out, [1.0, 2.0])?;
     let number = responses::bazintroa_eval_tf_complex(&b, &a, 9, &cosines, &sines, &mut out);
-    lines::complex(b"eval_tf_complex, refused", number, 16, out, [1.0, 2.0]);
+    lines::complex(rt, b"eval_tf_complex, refused", number, 16, out, [1.0, 2.0])
 }
 
 // There the plant of order 1, b 2, a 1 is P = 2/(1-j) = 1+j, and the controller of order 2, b (1, -1), a (0, -1) is
 // C = (1+j)/2. So L = PC = j, S = 1/(1+j) = (1-j)/2, T = j/(1+j) = (1+j)/2, Q = C/(1+j) = 1/2.
-fn four_responses() {
+fn four_responses(rt: &impl Print) -> io::Result<()> {
     let b = two(2.0, 9.0);
     let a = two(1.0, 9.0);
     let d = two(1.0, -1.0);
@@ -31,31 +33,31 @@ fn four_responses() {
     let y = [-0.0, -1.0, -0.0];
     let mut out = [lines::MARK; 2];
     let number = responses::bazintroa_loop_gain_at(&b, &a, 1, &d, &c, 2, &x, &y, &mut out);
-    lines::complex(b"loop_gain_at", number, 0, out, [0.0, 1.0]);
+    lines::complex(rt, b"loop_gain_at", number, 0, out, [0.0, 1.0])?;
     let number = responses::bazintroa_sensitivity_at(&b, &a, 1, &d, &c, 2, &x, &y, &mut out);
-    lines::complex(b"sensitivity_at", number, 0, out, [0.5, -0.5]);
+    lines::complex(rt, b"sensitivity_at", number, 0, out, [0.5, -0.5])?;
     let number = responses::bazintroa_comp_sensitivity_at(&b, &a, 1, &d, &c, 2, &x, &y, &mut out);
-    lines::complex(b"comp_sensitivity_at", number, 0, out, [0.5, 0.5]);
+    lines::complex(rt, b"comp_sensitivity_at", number, 0, out, [0.5, 0.5])?;
     let number = responses::bazintroa_control_sensitivity_at(
         &b, &a, 1, &d, &c, 2, &x, &y, &mut out,
     );
-    lines::complex(b"control_sensitivity_at", number, 0, out, [0.5, 0.0]);
+    lines::complex(rt, b"control_sensitivity_at", number, 0, out, [0.5, 0.0])
 }
 
 // Poles (0.5,0.5) and (1,0): the first alone is stable.
-fn stability() {
+fn stability(rt: &impl Print) -> io::Result<()> {
     let mut parts = [0.0; 16];
     parts[0] = 0.5;
     parts[1] = 0.5;
     parts[2] = 1.0;
     let one = locus::bazintroa_stability_region(&parts, 1);
     let two = locus::bazintroa_stability_region(&parts, 2);
-    lines::verdict(b"stability_region", one & !two);
+    lines::verdict(rt, b"stability_region", one & !two)
 }
 
 // Order 2, b (0, 1), a (-4, 5), point 4 of 9 up to gain 4: at gain 2 the polynomial 1, -2, 5 has the poles 1+2j, 1-2j.
 // A formula has them: settled, 0 rounds. Point 9 of 9: 17, and every place stays.
-fn point() {
+fn point(rt: &impl Print) -> io::Result<()> {
     let b = two(0.0, 1.0);
     let a = two(-4.0, 5.0);
     let mut gain = lines::MARK;
@@ -81,10 +83,10 @@ fn point() {
     expected[1] = 2.0;
     expected[2] = 1.0;
     expected[3] = -2.0;
-    lines::poles(b"locus_point", number, 0, parts, expected);
-    lines::real(b"locus_point, its gain", 0, 0, gain, 2.0);
-    lines::verdict(b"locus_point, its count", count == 2);
-    lines::real(b"locus_point, its ending", ending, 0, rounds, 0.0);
+    lines::poles(rt, b"locus_point", number, 0, parts, expected)?;
+    lines::real(rt, b"locus_point, its gain", 0, 0, gain, 2.0)?;
+    lines::verdict(rt, b"locus_point, its count", count == 2)?;
+    lines::real(rt, b"locus_point, its ending", ending, 0, rounds, 0.0)?;
     ending = 9;
     rounds = lines::MARK;
     let number = locus::bazintroa_locus_point(
@@ -100,22 +102,31 @@ fn point() {
         &mut ending,
         &mut rounds,
     );
-    lines::poles(b"locus_point, refused", number, 17, parts, expected);
+    lines::poles(rt, b"locus_point, refused", number, 17, parts, expected)?;
     lines::verdict(
+        rt,
         b"locus_point, refused, its gain and count",
         (gain == 2.0) & (count == 2),
-    );
+    )?;
     lines::real(
+        rt,
         b"locus_point, refused, its ending",
         ending,
         9,
         rounds,
         lines::MARK,
-    );
+    )
 }
 
 // A line on the ending at gain 0, where the polynomial is 1 and these coefficients.
-fn ending(name: &[u8], a: [f64; 8], order: usize, kind: u32, expected: f64) {
+fn ending(
+    rt: &impl Print,
+    name: &[u8],
+    a: [f64; 8],
+    order: usize,
+    kind: u32,
+    expected: f64,
+) -> io::Result<()> {
     let b = two(0.0, 0.0);
     let mut gain = lines::MARK;
     let mut parts = [lines::MARK; 16];
@@ -135,24 +146,28 @@ fn ending(name: &[u8], a: [f64; 8], order: usize, kind: u32, expected: f64) {
         &mut ending,
         &mut value,
     );
-    lines::verdict(name, (number == 0) & (ending == kind) & (value == expected));
+    lines::verdict(
+        rt,
+        name,
+        (number == 0) & (ending == kind) & (value == expected),
+    )
 }
 
 // The search for the poles of z^4 - 1 starts at them, but for roundings: settled in round 1. Of z + NaN and of
 // z^4 + NaN a part is NaN, though the first round has no change: broken.
-fn endings() {
+fn endings(rt: &impl Print) -> io::Result<()> {
     let fourth = [0.0, 0.0, 0.0, -1.0, 9.0, 9.0, 9.0, 9.0];
     let nan = 0.0 / 0.0;
-    ending(b"locus_point, settled", fourth, 4, 0, 1.0);
-    ending(b"locus_point, broken", two(nan, 9.0), 1, 2, 0.0);
+    ending(rt, b"locus_point, settled", fourth, 4, 0, 1.0)?;
+    ending(rt, b"locus_point, broken", two(nan, 9.0), 1, 2, 0.0)?;
     let fourth = [0.0, 0.0, 0.0, nan, 9.0, 9.0, 9.0, 9.0];
-    ending(b"locus_point, broken in its search", fourth, 4, 2, 0.0);
+    ending(rt, b"locus_point, broken in its search", fourth, 4, 2, 0.0)
 }
 
-pub(crate) fn run() {
-    value();
-    four_responses();
-    stability();
-    point();
-    endings();
+pub(crate) fn run(rt: &impl Print) -> io::Result<()> {
+    value(rt)?;
+    four_responses(rt)?;
+    stability(rt)?;
+    point(rt)?;
+    endings(rt)
 }

@@ -3,6 +3,8 @@
 // call; never from a run of the port. A line for each function: its name, and that all is as expected.
 #![tactic(auto)]
 
+use std::io;
+
 mod lines;
 mod loops;
 mod numbers;
@@ -10,11 +12,11 @@ mod panels;
 mod summaries;
 mod sweeps;
 
-fn main() {
-    numbers::run();
-    loops::run();
-    sweeps::run();
-    summaries::run();
-    panels::run();
-    lines::tell_apart();
+fn main(rt: HostRuntime) -> io::Result<()> {
+    numbers::run(&rt)?;
+    loops::run(&rt)?;
+    sweeps::run(&rt)?;
+    summaries::run(&rt)?;
+    panels::run(&rt)?;
+    lines::tell_apart(&rt)
 }

@@ -3,7 +3,8 @@
 #![tactic(auto)]
 
 use complex::{Complex, Quotient};
-use vectors::{Tally, Word};
+use std::io;
+use vectors::{Input, Tally, Word};
 
 // What the oracle answered: the number, and the bits of the values.
 #[derive(Clone, Copy)]
@@ -47,25 +48,25 @@ fn right(question: u64, x: Complex, y: Complex, e: Expected) -> bool {
 }
 
 // Reads and answers the rest of a record.
-fn answer(question: u64, tally: Tally) -> Tally {
-    let x = Complex::new(vectors::float(), vectors::float());
-    let y = Complex::new(vectors::float(), vectors::float());
+fn answer(input: &mut Input, question: u64, tally: Tally) -> Tally {
+    let x = Complex::new(vectors::float(input), vectors::float(input));
+    let y = Complex::new(vectors::float(input), vectors::float(input));
     let e = Expected {
-        number: vectors::number(),
-        first: vectors::number(),
-        second: vectors::number(),
+        number: vectors::number(input),
+        first: vectors::number(input),
+        second: vectors::number(input),
     };
     let known = if question < 13 { question } else { 0 };
     tally.count(known, right(question, x, y, e))
 }
 
 // A proved loop ends, and nothing says that the input does: at most a million records are read, more than any file has.
-fn run() -> Tally {
+fn run(input: &mut Input) -> Tally {
     let mut tally = Tally::new();
     for turn in 0..1000000u64 {
-        match vectors::next() {
+        match vectors::next(input) {
             Word::Is(head) => {
-                tally = answer(vectors::unmarked(head), tally.begin(head));
+                tally = answer(input, vectors::unmarked(head), tally.begin(head));
             }
             Word::End => {
                 return tally;
@@ -75,19 +76,21 @@ fn run() -> Tally {
     tally
 }
 
-fn main() {
-    let tally = run();
-    tally.line(1, b"abs");
-    tally.line(2, b"sqrt");
-    tally.line(3, b"new");
-    tally.line(4, b"from_real");
-    tally.line(5, b"multiply");
-    tally.line(6, b"add");
-    tally.line(7, b"sub");
-    tally.line(8, b"magnitude");
-    tally.line(9, b"magnitude_sq");
-    tally.line(10, b"reciprocal");
-    tally.line(11, b"divide");
-    tally.line(12, b"EPSILON");
-    tally.line(0, b"no question");
+fn main(rt: HostRuntime) -> io::Result<()> {
+    let mut input = Input::new(rt.stdin());
+    let tally = run(&mut input);
+    input.end()?;
+    tally.line(&rt, 1, b"abs")?;
+    tally.line(&rt, 2, b"sqrt")?;
+    tally.line(&rt, 3, b"new")?;
+    tally.line(&rt, 4, b"from_real")?;
+    tally.line(&rt, 5, b"multiply")?;
+    tally.line(&rt, 6, b"add")?;
+    tally.line(&rt, 7, b"sub")?;
+    tally.line(&rt, 8, b"magnitude")?;
+    tally.line(&rt, 9, b"magnitude_sq")?;
+    tally.line(&rt, 10, b"reciprocal")?;
+    tally.line(&rt, 11, b"divide")?;
+    tally.line(&rt, 12, b"EPSILON")?;
+    tally.line(&rt, 0, b"no question")
 }

@@ -5,8 +5,9 @@
 
 ghost use Rattle.std.specs.Prelude.{◌≡◌, length};
 
+use std::io;
 use sweep::Grid;
-use vectors::{Tally, Word};
+use vectors::{Input, Tally, Word};
 
 const MARK: f64 = -7.25;
 
@@ -27,18 +28,16 @@ fn fill(question: u64, top: f64, n: usize, list: &mut [f64]) -> Grid {
 }
 
 // Whether the list holds the values that are read next, as many as are given, and behind them marks.
-fn holds(list: &[f64], given: u64) -> bool {
+fn holds(input: &mut Input, list: &[f64], given: u64) -> bool {
     let mut right = true;
-    let mut i: usize = 0;
-    while i < list.len() {
-        let bits = wire::f64_to_bits(list[i]);
+    for (i, x) in list.iter().enumerate() {
+        let bits = wire::f64_to_bits(*x);
         let value = if (i as u64) < given {
-            vectors::number()
+            vectors::number(input)
         } else {
             wire::f64_to_bits(MARK)
         };
         right = right & (bits == value);
-        i += 1;
     }
     right
 }
@@ -50,44 +49,51 @@ fn number_of(grid: Grid) -> u32 {
     }
 }
 
-fn expected(grid: Grid, list: &[f64]) -> bool {
-    let given = vectors::number();
-    let number = number_of(grid) as u64 == vectors::number();
-    number & holds(list, given)
+fn expected(input: &mut Input, grid: Grid, list: &[f64]) -> bool {
+    let given = vectors::number(input);
+    let number = number_of(grid) as u64 == vectors::number(input);
+    number & holds(input, list, given)
 }
 
-fn ask(question: u64, top: f64, n: u64, list: &mut [f64]) -> bool {
+fn ask(input: &mut Input, question: u64, top: f64, n: u64, list: &mut [f64]) -> bool {
     put_marks(list);
     let grid = fill(question, top, n as usize, list);
-    expected(grid, list)
+    expected(input, grid, list)
 }
 
 // The same with the first `room` places of a list.
-fn ask_part(question: u64, top: f64, n: u64, room: usize, list: &mut [f64]) -> bool {
+fn ask_part(
+    input: &mut Input,
+    question: u64,
+    top: f64,
+    n: u64,
+    room: usize,
+    list: &mut [f64],
+) -> bool {
     if list.len() < room {
         return false;
     }
-    ask(question, top, n, &mut list[..room])
+    ask(input, question, top, n, &mut list[..room])
 }
 
 // Reads and answers the rest of a case.
-fn answer(question: u64, tally: Tally) -> Tally {
-    let top = vectors::float();
-    let n = vectors::number();
-    let room = vectors::number();
+fn answer(input: &mut Input, question: u64, tally: Tally) -> Tally {
+    let top = vectors::float(input);
+    let n = vectors::number(input);
+    let room = vectors::number(input);
     let mut list = [0.0; 4200];
     let known = if question < 3 { question } else { 0 };
-    let right = ask_part(question, top, n, room as usize, &mut list);
+    let right = ask_part(input, question, top, n, room as usize, &mut list);
     tally.count(known, right & (0 < known))
 }
 
 // A proved loop ends, and nothing says that the input does: at most a million cases are read, more than any file has.
-fn run() -> Tally {
+fn run(input: &mut Input) -> Tally {
     let mut tally = Tally::new();
     for turn in 0..1000000u64 {
-        match vectors::next() {
+        match vectors::next(input) {
             Word::Is(head) => {
-                tally = answer(vectors::unmarked(head), tally.begin(head));
+                tally = answer(input, vectors::unmarked(head), tally.begin(head));
             }
             Word::End => {
                 return tally;
@@ -97,9 +103,11 @@ fn run() -> Tally {
     tally
 }
 
-fn main() {
-    let tally = run();
-    tally.line(1, b"fill_gain_grid");
-    tally.line(2, b"fill_frequency_grid");
-    tally.line(0, b"no question");
+fn main(rt: HostRuntime) -> io::Result<()> {
+    let mut input = Input::new(rt.stdin());
+    let tally = run(&mut input);
+    input.end()?;
+    tally.line(&rt, 1, b"fill_gain_grid")?;
+    tally.line(&rt, 2, b"fill_frequency_grid")?;
+    tally.line(&rt, 0, b"no question")
 }

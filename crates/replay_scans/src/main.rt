@@ -5,13 +5,14 @@
 ghost use Rattle.std.specs.Prelude.{◌≤◌};
 
 use bode::Reading;
+use std::io;
 use sweep::Answer;
-use vectors::{Tally, Word};
+use vectors::{Input, Tally, Word};
 
 // Whether an answer is the next one expected: its number, and the bits of its value.
-fn expected(a: Answer) -> bool {
-    let number = vectors::number();
-    let value = vectors::number();
+fn expected(input: &mut Input, a: Answer) -> bool {
+    let number = vectors::number(input);
+    let value = vectors::number(input);
     match a {
         Answer::Found(x) => (number == 0) & (wire::f64_to_bits(x) == value),
         Answer::Absent => (number == 100) & (value == 0),
@@ -20,9 +21,9 @@ fn expected(a: Answer) -> bool {
 }
 
 // Passes over the next answer, which is to a question that is not asked here.
-fn skip() {
-    vectors::number();
-    vectors::number();
+fn skip(input: &mut Input) {
+    vectors::number(input);
+    vectors::number(input);
 }
 
 fn float_at(list: &[f64], i: usize) -> f64 {
@@ -51,8 +52,7 @@ fn readings(omega: &[f64], db: &[f64], phase: &[f64]) -> [Reading; 5000] {
     rs
 }
 
-// What the scan over a slice of readings answers on the first n. The borrow checker covers no function that lends
-// structs: this one is proved by hand, and does nothing else.
+// What the scan over a slice of readings answers on the first n.
 fn crossover(rs: [Reading; 5000], n: usize) -> Answer
     requires { n ≤ 5000 }
 {
@@ -60,83 +60,92 @@ fn crossover(rs: [Reading; 5000], n: usize) -> Answer
 }
 
 // Lists of different lengths are no readings, and the answer is to nothing then.
-fn ask_readings(omega: &[f64], db: &[f64], phase: &[f64], tally: Tally) -> Tally {
+fn ask_readings(
+    input: &mut Input,
+    omega: &[f64],
+    db: &[f64],
+    phase: &[f64],
+    tally: Tally,
+) -> Tally {
     let n = omega.len();
     if n <= 5000 {
         if (db.len() == n) & (phase.len() == n) {
             let rs = readings(omega, db, phase);
-            return tally.count(8, expected(crossover(rs, n)));
+            return tally.count(8, expected(input, crossover(rs, n)));
         }
     }
-    skip();
+    skip(input);
     tally
 }
 
-fn ask_bode(omega: &[f64], db: &[f64], phase: &[f64], tally: Tally) -> Tally {
+fn ask_bode(input: &mut Input, omega: &[f64], db: &[f64], phase: &[f64], tally: Tally) -> Tally {
     let asked = tally
         .count(
             1,
-            expected(bode::gain_crossover_frequency(omega, db, phase)),
+            expected(input, bode::gain_crossover_frequency(omega, db, phase)),
         )
         .count(
             2,
-            expected(bode::phase_crossover_frequency(omega, db, phase)),
+            expected(input, bode::phase_crossover_frequency(omega, db, phase)),
         )
-        .count(3, expected(bode::gain_margin(omega, db, phase)))
-        .count(4, expected(bode::phase_margin(omega, db, phase)));
-    ask_readings(omega, db, phase, asked)
+        .count(3, expected(input, bode::gain_margin(omega, db, phase)))
+        .count(4, expected(input, bode::phase_margin(omega, db, phase)));
+    ask_readings(input, omega, db, phase, asked)
 }
 
-fn ask_sensitivity(omega: &[f64], s: &[f64], t: &[f64], tally: Tally) -> Tally {
+fn ask_sensitivity(input: &mut Input, omega: &[f64], s: &[f64], t: &[f64], tally: Tally) -> Tally {
     let asked = tally
-        .count(5, expected(sensitivity::sensitivity_crossover(omega, s, t)))
-        .count(6, expected(sensitivity::bandwidth(omega, s, t)));
-    skip();
-    skip();
-    skip();
+        .count(
+            5,
+            expected(input, sensitivity::sensitivity_crossover(omega, s, t)),
+        )
+        .count(6, expected(input, sensitivity::bandwidth(omega, s, t)));
+    skip(input);
+    skip(input);
+    skip(input);
     asked
 }
 
-fn ask_curve(re: &[f64], im: &[f64], tally: Tally) -> Tally {
-    let asked = tally.count(7, expected(nyquist::distance_to_critical(re, im)));
-    skip();
-    skip();
-    skip();
-    skip();
+fn ask_curve(input: &mut Input, re: &[f64], im: &[f64], tally: Tally) -> Tally {
+    let asked = tally.count(7, expected(input, nyquist::distance_to_critical(re, im)));
+    skip(input);
+    skip(input);
+    skip(input);
+    skip(input);
     asked
 }
 
-fn ask(kind: u64, a: &[f64], b: &[f64], c: &[f64], tally: Tally) -> Tally {
+fn ask(input: &mut Input, kind: u64, a: &[f64], b: &[f64], c: &[f64], tally: Tally) -> Tally {
     match kind {
-        1 => ask_bode(a, b, c, tally),
-        2 => ask_sensitivity(a, b, c, tally),
-        3 => ask_curve(a, b, tally),
+        1 => ask_bode(input, a, b, c, tally),
+        2 => ask_sensitivity(input, a, b, c, tally),
+        3 => ask_curve(input, a, b, tally),
         _ => tally.count(0, false),
     }
 }
 
 // Reads and answers the rest of a case.
-fn answer(kind: u64, tally: Tally) -> Tally {
-    let na = vectors::number();
-    let nb = vectors::number();
-    let nc = vectors::number();
-    let pad = vectors::number();
+fn answer(input: &mut Input, kind: u64, tally: Tally) -> Tally {
+    let na = vectors::number(input);
+    let nb = vectors::number(input);
+    let nc = vectors::number(input);
+    let pad = vectors::number(input);
     let mut a = [0.0; 5000];
     let mut b = [0.0; 5000];
     let mut c = [0.0; 5000];
-    let i = vectors::padded(&mut a, pad, na);
-    let j = vectors::padded(&mut b, pad, nb);
-    let k = vectors::padded(&mut c, pad, nc);
-    ask(kind, &a[..i], &b[..j], &c[..k], tally)
+    let i = vectors::padded(input, &mut a, pad, na);
+    let j = vectors::padded(input, &mut b, pad, nb);
+    let k = vectors::padded(input, &mut c, pad, nc);
+    ask(input, kind, &a[..i], &b[..j], &c[..k], tally)
 }
 
 // A proved loop ends, and nothing says that the input does: at most a million cases are read, more than any file has.
-fn run() -> Tally {
+fn run(input: &mut Input) -> Tally {
     let mut tally = Tally::new();
     for turn in 0..1000000u64 {
-        match vectors::next() {
+        match vectors::next(input) {
             Word::Is(head) => {
-                tally = answer(vectors::unmarked(head), tally.begin(head));
+                tally = answer(input, vectors::unmarked(head), tally.begin(head));
             }
             Word::End => {
                 return tally;
@@ -146,15 +155,17 @@ fn run() -> Tally {
     tally
 }
 
-fn main() {
-    let tally = run();
-    tally.line(1, b"gain_crossover_frequency");
-    tally.line(2, b"phase_crossover_frequency");
-    tally.line(3, b"gain_margin");
-    tally.line(4, b"phase_margin");
-    tally.line(8, b"gain_crossover_readings");
-    tally.line(5, b"sensitivity_crossover");
-    tally.line(6, b"bandwidth");
-    tally.line(7, b"distance_to_critical");
-    tally.line(0, b"no question");
+fn main(rt: HostRuntime) -> io::Result<()> {
+    let mut input = Input::new(rt.stdin());
+    let tally = run(&mut input);
+    input.end()?;
+    tally.line(&rt, 1, b"gain_crossover_frequency")?;
+    tally.line(&rt, 2, b"phase_crossover_frequency")?;
+    tally.line(&rt, 3, b"gain_margin")?;
+    tally.line(&rt, 4, b"phase_margin")?;
+    tally.line(&rt, 8, b"gain_crossover_readings")?;
+    tally.line(&rt, 5, b"sensitivity_crossover")?;
+    tally.line(&rt, 6, b"bandwidth")?;
+    tally.line(&rt, 7, b"distance_to_critical")?;
+    tally.line(&rt, 0, b"no question")
 }

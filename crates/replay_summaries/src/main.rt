@@ -5,8 +5,9 @@
 use bode::{BodeFed, BodeSummary};
 use nyquist::{CurveFed, CurveSummary};
 use sensitivity::{SensitivityFed, SensitivitySummary};
+use std::io;
 use sweep::{Crossing, Kept};
-use vectors::{Tally, Word};
+use vectors::{Input, Tally, Word};
 
 // A register: a summary of each kind. A case uses that of its own.
 #[derive(Clone, Copy)]
@@ -64,18 +65,18 @@ struct Machine {
 }
 
 // Whether a crossing is the next answer expected: its number, and the bits of its value.
-fn expected_crossing(c: Crossing) -> bool {
-    let number = vectors::number();
-    let value = vectors::number();
+fn expected_crossing(input: &mut Input, c: Crossing) -> bool {
+    let number = vectors::number(input);
+    let value = vectors::number(input);
     match c {
         Crossing::At(x) => (number == 0) & (wire::f64_to_bits(x) == value),
         Crossing::Missing => (number == 100) & (value == 0),
     }
 }
 
-fn expected_kept(k: Kept) -> bool {
-    let number = vectors::number();
-    let value = vectors::number();
+fn expected_kept(input: &mut Input, k: Kept) -> bool {
+    let number = vectors::number(input);
+    let value = vectors::number(input);
     match k {
         Kept::Found(x) => (number == 0) & (wire::f64_to_bits(x) == value),
         Kept::Absent => (number == 100) & (value == 0),
@@ -83,13 +84,13 @@ fn expected_kept(k: Kept) -> bool {
     }
 }
 
-fn expected_value(x: f64) -> bool {
-    wire::f64_to_bits(x) == vectors::number()
+fn expected_value(input: &mut Input, x: f64) -> bool {
+    wire::f64_to_bits(x) == vectors::number(input)
 }
 
 // Whether the number of a feed is the next one expected.
-fn expected_number(number: u32) -> bool {
-    number as u64 == vectors::number()
+fn expected_number(input: &mut Input, number: u32) -> bool {
+    number as u64 == vectors::number(input)
 }
 
 impl Machine {
@@ -136,108 +137,130 @@ impl Machine {
         self
     }
 
-    fn feed_bode(self, at: u64, omega: &[f64], db: &[f64], phase: &[f64]) -> Machine {
+    fn feed_bode(
+        self,
+        input: &mut Input,
+        at: u64,
+        omega: &[f64],
+        db: &[f64],
+        phase: &[f64],
+    ) -> Machine {
         let register = self.get(at);
         let summary = register.bode;
         match summary.feed(omega, db, phase) {
             BodeFed::Taken(new) => {
                 let fed = self.put(at, register.with_bode(new));
-                fed.count(1, expected_number(0))
+                fed.count(1, expected_number(input, 0))
             }
-            BodeFed::Refused(e) => self.count(1, expected_number(e.number())),
+            BodeFed::Refused(e) => self.count(1, expected_number(input, e.number())),
         }
     }
 
-    fn feed_sensitivity(self, at: u64, omega: &[f64], s: &[f64], t: &[f64]) -> Machine {
+    fn feed_sensitivity(
+        self,
+        input: &mut Input,
+        at: u64,
+        omega: &[f64],
+        s: &[f64],
+        t: &[f64],
+    ) -> Machine {
         let register = self.get(at);
         let summary = register.sensitivity;
         match summary.feed(omega, s, t) {
             SensitivityFed::Taken(new) => {
                 let fed = self.put(at, register.with_sensitivity(new));
-                fed.count(4, expected_number(0))
+                fed.count(4, expected_number(input, 0))
             }
-            SensitivityFed::Refused(e) => self.count(4, expected_number(e.number())),
+            SensitivityFed::Refused(e) => self.count(4, expected_number(input, e.number())),
         }
     }
 
-    fn feed_curve(self, at: u64, re: &[f64], im: &[f64]) -> Machine {
+    fn feed_curve(self, input: &mut Input, at: u64, re: &[f64], im: &[f64]) -> Machine {
         let register = self.get(at);
         let summary = register.curve;
         match summary.feed(re, im) {
             CurveFed::Taken(new) => {
                 let fed = self.put(at, register.with_curve(new));
-                fed.count(7, expected_number(0))
+                fed.count(7, expected_number(input, 0))
             }
-            CurveFed::Refused(e) => self.count(7, expected_number(e.number())),
+            CurveFed::Refused(e) => self.count(7, expected_number(input, e.number())),
         }
     }
 
-    fn feed_lists(self, kind: u64, at: u64, a: &[f64], b: &[f64], c: &[f64]) -> Machine {
+    fn feed_lists(
+        self,
+        input: &mut Input,
+        kind: u64,
+        at: u64,
+        a: &[f64],
+        b: &[f64],
+        c: &[f64],
+    ) -> Machine {
         match kind {
-            1 => self.feed_bode(at, a, b, c),
-            2 => self.feed_sensitivity(at, a, b, c),
-            3 => self.feed_curve(at, a, b),
+            1 => self.feed_bode(input, at, a, b, c),
+            2 => self.feed_sensitivity(input, at, a, b, c),
+            3 => self.feed_curve(input, at, a, b),
             _ => self.count(0, false),
         }
     }
 
     // Reads a part and feeds it.
-    fn feed(self, kind: u64, at: u64) -> Machine {
-        let na = vectors::number();
-        let nb = vectors::number();
-        let nc = third_length(kind);
-        let pad = vectors::number();
+    fn feed(self, input: &mut Input, kind: u64, at: u64) -> Machine {
+        let na = vectors::number(input);
+        let nb = vectors::number(input);
+        let nc = third_length(input, kind);
+        let pad = vectors::number(input);
         let mut a = [0.0; 5000];
         let mut b = [0.0; 5000];
         let mut c = [0.0; 5000];
-        let i = vectors::padded(&mut a, pad, na);
-        let j = vectors::padded(&mut b, pad, nb);
-        let k = vectors::padded(&mut c, pad, nc);
-        self.feed_lists(kind, at, &a[..i], &b[..j], &c[..k])
+        let i = vectors::padded(input, &mut a, pad, na);
+        let j = vectors::padded(input, &mut b, pad, nb);
+        let k = vectors::padded(input, &mut c, pad, nc);
+        self.feed_lists(input, kind, at, &a[..i], &b[..j], &c[..k])
     }
 
     // Reads the other register and joins it.
-    fn join(self, at: u64) -> Machine {
-        let other = self.get(vectors::number());
+    fn join(self, input: &mut Input, at: u64) -> Machine {
+        let other = self.get(vectors::number(input));
         let register = self.get(at);
         self.put(at, register.join(other))
     }
 
     // Reads a call and makes it.
-    fn call(self, kind: u64) -> Machine {
-        let call = vectors::number();
-        let at = vectors::number();
+    fn call(self, input: &mut Input, kind: u64) -> Machine {
+        let call = vectors::number(input);
+        let at = vectors::number(input);
         match call {
             1 => self.put(at, Register::empty()),
-            2 => self.feed(kind, at),
-            3 => self.join(at),
+            2 => self.feed(input, kind, at),
+            3 => self.join(input, at),
             _ => self.count(0, false),
         }
     }
 
-    fn ask_bode(self) -> Tally {
+    fn ask_bode(self, input: &mut Input) -> Tally {
         let register = self.r0;
         let summary = register.bode;
         let tally = self.tally;
         tally
-            .count(2, expected_crossing(summary.gain_crossover()))
-            .count(3, expected_crossing(summary.phase_crossover()))
+            .count(2, expected_crossing(input, summary.gain_crossover()))
+            .count(3, expected_crossing(input, summary.phase_crossover()))
     }
 
-    fn ask_sensitivity(self) -> Tally {
+    fn ask_sensitivity(self, input: &mut Input) -> Tally {
         let register = self.r0;
         let summary = register.sensitivity;
         let tally = self.tally;
         tally
-            .count(5, expected_crossing(summary.crossover()))
-            .count(6, expected_kept(summary.bandwidth()))
+            .count(5, expected_crossing(input, summary.crossover()))
+            .count(6, expected_kept(input, summary.bandwidth()))
     }
 
-    fn ask_curve(self) -> Tally {
+    fn ask_curve(self, input: &mut Input) -> Tally {
         let register = self.r0;
         let summary = register.curve;
         let tally = self.tally;
-        tally.count(8, expected_value(summary.closest_approach()))
+        tally.count(8, expected_value(input, summary.closest_approach()))
     }
 
     fn ask_nothing(self) -> Tally {
@@ -246,46 +269,46 @@ impl Machine {
     }
 
     // What register 0 answers.
-    fn ask(self, kind: u64) -> Tally {
+    fn ask(self, input: &mut Input, kind: u64) -> Tally {
         match kind {
-            1 => self.ask_bode(),
-            2 => self.ask_sensitivity(),
-            3 => self.ask_curve(),
+            1 => self.ask_bode(input),
+            2 => self.ask_sensitivity(input),
+            3 => self.ask_curve(input),
             _ => self.ask_nothing(),
         }
     }
 }
 
 // A curve has no third list.
-fn third_length(kind: u64) -> u64 {
+fn third_length(input: &mut Input, kind: u64) -> u64 {
     if kind == 3 {
         return 0;
     }
-    vectors::number()
+    vectors::number(input)
 }
 
 // Makes the calls of a case.
-fn calls(kind: u64, count: u64, tally: Tally) -> Machine {
+fn calls(input: &mut Input, kind: u64, count: u64, tally: Tally) -> Machine {
     let mut machine = Machine::new(tally);
     for turn in 0..count {
-        machine = machine.call(kind);
+        machine = machine.call(input, kind);
     }
     machine
 }
 
 // Reads and answers the rest of a case.
-fn answer(kind: u64, tally: Tally) -> Tally {
-    let count = vectors::number();
-    calls(kind, count, tally).ask(kind)
+fn answer(input: &mut Input, kind: u64, tally: Tally) -> Tally {
+    let count = vectors::number(input);
+    calls(input, kind, count, tally).ask(input, kind)
 }
 
 // A proved loop ends, and nothing says that the input does: at most a million cases are read, more than any file has.
-fn run() -> Tally {
+fn run(input: &mut Input) -> Tally {
     let mut tally = Tally::new();
     for turn in 0..1000000u64 {
-        match vectors::next() {
+        match vectors::next(input) {
             Word::Is(head) => {
-                tally = answer(vectors::unmarked(head), tally.begin(head));
+                tally = answer(input, vectors::unmarked(head), tally.begin(head));
             }
             Word::End => {
                 return tally;
@@ -295,15 +318,17 @@ fn run() -> Tally {
     tally
 }
 
-fn main() {
-    let tally = run();
-    tally.line(1, b"BodeSummary feed");
-    tally.line(2, b"BodeSummary gain_crossover");
-    tally.line(3, b"BodeSummary phase_crossover");
-    tally.line(4, b"SensitivitySummary feed");
-    tally.line(5, b"SensitivitySummary crossover");
-    tally.line(6, b"SensitivitySummary bandwidth");
-    tally.line(7, b"CurveSummary feed");
-    tally.line(8, b"CurveSummary closest_approach");
-    tally.line(0, b"no question");
+fn main(rt: HostRuntime) -> io::Result<()> {
+    let mut input = Input::new(rt.stdin());
+    let tally = run(&mut input);
+    input.end()?;
+    tally.line(&rt, 1, b"BodeSummary feed")?;
+    tally.line(&rt, 2, b"BodeSummary gain_crossover")?;
+    tally.line(&rt, 3, b"BodeSummary phase_crossover")?;
+    tally.line(&rt, 4, b"SensitivitySummary feed")?;
+    tally.line(&rt, 5, b"SensitivitySummary crossover")?;
+    tally.line(&rt, 6, b"SensitivitySummary bandwidth")?;
+    tally.line(&rt, 7, b"CurveSummary feed")?;
+    tally.line(&rt, 8, b"CurveSummary closest_approach")?;
+    tally.line(&rt, 0, b"no question")
 }
