@@ -13,7 +13,7 @@ use Rattle.bode.specs.Summary.{summary_of}
 use Rattle.bode.specs.Plain.{plain_of, from_plain}
 use Rattle.bode.specs.declared.Reading.{Reading}
 use Rattle.bode.specs.declared.summary.BodeSummary.{BodeSummary}
-use Rattle.bode.specs.contracts.Reading as reading-type
+use Rattle.bode.specs.contracts.Reading as reading_type
 use Rattle.bode.specs.contracts.summary.BodePlain as plain_type
 
 pub plain_back : (s : BodeSummary) → from_plain (plain_of s) ≡ s
@@ -22,7 +22,7 @@ plain_back s = λ i. record { read = read_back s.read i; first = s.first; last =
 
 -- ---- The fields in memory, one after another. `as_values` and `make` are generated from the struct as it is declared.
 
-pub reading_places : (omega db phase : Float) → (reading-type.struct).as_values (reading omega db phase) ≡ (omega, (db, (phase, tt)))
+pub reading_places : (omega db phase : Float) → (reading_type.struct).as_values (reading omega db phase) ≡ (omega, (db, (phase, tt)))
 reading_places omega db phase = refl
 
 pub plain_places : (s : BodeSummary)

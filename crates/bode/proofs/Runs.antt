@@ -24,33 +24,33 @@ use Rattle.bode.specs.declared.summary.BodeSummary.{BodeSummary}
 use Rattle.bode.specs.declared.summary.BodeFed.TheVariants.{Taken, Refused}
 use Rattle.bode.proofs.Laws.{no_crossover_in, none_of_crossover}
 use Rattle.bode.proofs.Joins.{fed_append, join_append, answer_is}
-use Rattle.bode.proofs.summary.BodeSummary.empty.Reads as empty-reads
-use Rattle.bode.proofs.summary.BodeSummary.feed.Reads as feed-reads
-use Rattle.bode.proofs.summary.BodeSummary.join.Reads as join-reads
-use Rattle.bode.proofs.summary.BodeSummary.gain_crossover.Reads as gain-reads
-use Rattle.bode.proofs.summary.BodeSummary.phase_crossover.Reads as phase-reads
+use Rattle.bode.proofs.summary.BodeSummary.empty.Reads as empty_reads
+use Rattle.bode.proofs.summary.BodeSummary.feed.Reads as feed_reads
+use Rattle.bode.proofs.summary.BodeSummary.join.Reads as join_reads
+use Rattle.bode.proofs.summary.BodeSummary.gain_crossover.Reads as gain_reads
+use Rattle.bode.proofs.summary.BodeSummary.phase_crossover.Reads as phase_reads
 
 -- ---- the calls, by their contracts
 
 -- s is what a call of `empty` returned
 abbrev pub Made : BodeSummary → Type 0
-Made s = Returned empty-reads.Learnt tt s
+Made s = Returned empty_reads.Learnt tt s
 
 -- t is the summary that the caller has after a call of `feed` on s with slices that hold the part's three lists
 abbrev pub FedBy : BodeSummary → Part → BodeSummary → Type 0
-FedBy s p t = FedLists (p.omega ∷ p.db ∷ p.phase ∷ []) feed-reads.Learnt (λ r. left_by r s) s t
+FedBy s p t = FedLists (p.omega ∷ p.db ∷ p.phase ∷ []) feed_reads.Learnt (λ r. left_by r s) s t
 
 -- u is what a call of `join` on s and t returned
 abbrev pub JoinedBy : BodeSummary → BodeSummary → BodeSummary → Type 0
-JoinedBy s t u = Returned join-reads.Learnt (s, (t, tt)) u
+JoinedBy s t u = Returned join_reads.Learnt (s, (t, tt)) u
 
 -- r is what a call of `gain_crossover` on s returned
 abbrev pub GainOf : BodeSummary → Crossing → Type 0
-GainOf s r = Returned gain-reads.Learnt (s, tt) r
+GainOf s r = Returned gain_reads.Learnt (s, tt) r
 
 -- r is what a call of `phase_crossover` on s returned
 abbrev pub PhaseOf : BodeSummary → Crossing → Type 0
-PhaseOf s r = Returned phase-reads.Learnt (s, tt) r
+PhaseOf s r = Returned phase_reads.Learnt (s, tt) r
 
 -- s is a summary that the list of calls may leave
 abbrev pub Reaches : Calls Part → BodeSummary → Type 0

@@ -35,8 +35,8 @@ abbrev response : (Complex → Complex → Complex) → Outcome
 response f =
     let plant = transfer_fn (1 over 1 ∷ []) (round binary64 true 1 2 ∷ []) 1 in
     let controller = transfer_fn (1 over 2 ∷ []) (0 over 1 ∷ []) 1 in
-    let minus-zero = round binary64 true 0 1 in
-    response_by f (loop_shaping plant controller) (1 over 1 ∷ 1 over 1 ∷ []) (minus-zero ∷ minus-zero ∷ [])
+    let minus_zero = round binary64 true 0 1 in
+    response_by f (loop_shaping plant controller) (1 over 1 ∷ 1 over 1 ∷ []) (minus_zero ∷ minus_zero ∷ [])
 
 abbrev real : Float → Outcome
 real x = found (x ∷ 0 over 1 ∷ [])

@@ -23,33 +23,33 @@ use Rattle.bode.proofs.Plain.{plain_back}
 use Rattle.laws.specs.Outcome.{Outcome, Answers}
 use Rattle.c_summaries.specs.Fed.{fed_bode}
 use Rattle.c_summaries.specs.declared.bode_summary.BodePlainFed.{BodePlainFed}
-use Rattle.c_summaries.proofs.bode_summary.bazintroa_bode_empty.Reads as empty-reads
-use Rattle.c_summaries.proofs.bode_summary.bazintroa_bode_feed.Reads as feed-reads
-use Rattle.c_summaries.proofs.bode_summary.bazintroa_bode_join.Reads as join-reads
-use Rattle.c_summaries.proofs.bode_summary.bazintroa_bode_gain_crossover.Reads as gain-reads
-use Rattle.c_summaries.proofs.bode_summary.bazintroa_bode_phase_crossover.Reads as phase-reads
+use Rattle.c_summaries.proofs.bode_summary.bazintroa_bode_empty.Reads as empty_reads
+use Rattle.c_summaries.proofs.bode_summary.bazintroa_bode_feed.Reads as feed_reads
+use Rattle.c_summaries.proofs.bode_summary.bazintroa_bode_join.Reads as join_reads
+use Rattle.c_summaries.proofs.bode_summary.bazintroa_bode_gain_crossover.Reads as gain_reads
+use Rattle.c_summaries.proofs.bode_summary.bazintroa_bode_phase_crossover.Reads as phase_reads
 
 -- ---- the calls, by their contracts
 
 -- p is what a call of `bazintroa_bode_empty` returned
 abbrev pub Made : BodePlain → Type 0
-Made p = Returned empty-reads.Learnt tt p
+Made p = Returned empty_reads.Learnt tt p
 
 -- q is the summary that a call of `bazintroa_bode_feed` on p returned, with slices that hold the part's three lists
 abbrev pub FedBy : BodePlain → Part → BodePlain → Type 0
-FedBy p x q = FedLists (x.omega ∷ x.db ∷ x.phase ∷ []) feed-reads.Learnt (λ r. r.summary) p q
+FedBy p x q = FedLists (x.omega ∷ x.db ∷ x.phase ∷ []) feed_reads.Learnt (λ r. r.summary) p q
 
 -- r is what a call of `bazintroa_bode_join` on p and q returned
 abbrev pub JoinedBy : BodePlain → BodePlain → BodePlain → Type 0
-JoinedBy p q r = Returned join-reads.Learnt (p, (q, tt)) r
+JoinedBy p q r = Returned join_reads.Learnt (p, (q, tt)) r
 
 -- a call of `bazintroa_bode_gain_crossover` on p returned r and left `after` in a place that held `before`
 abbrev pub GainOf : BodePlain → ℕ → Float → Float → Type 0
-GainOf p r before after = Answered gain-reads.Learnt p r before after
+GainOf p r before after = Answered gain_reads.Learnt p r before after
 
 -- the same of `bazintroa_bode_phase_crossover`
 abbrev pub PhaseOf : BodePlain → ℕ → Float → Float → Type 0
-PhaseOf p r before after = Answered phase-reads.Learnt p r before after
+PhaseOf p r before after = Answered phase_reads.Learnt p r before after
 
 -- p are plain numbers that the list of calls may leave
 abbrev pub Reaches : Calls Part → BodePlain → Type 0

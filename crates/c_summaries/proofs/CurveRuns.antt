@@ -15,28 +15,28 @@ use Rattle.nyquist.proofs.Joins.{fed_append, join_append, approach_answer_lem}
 use Rattle.nyquist.proofs.Plain.{plain_back}
 use Rattle.c_summaries.specs.Fed.{fed_curve}
 use Rattle.c_summaries.specs.declared.curve_summary.CurvePlainFed.{CurvePlainFed}
-use Rattle.c_summaries.proofs.curve_summary.bazintroa_curve_empty.Reads as empty-reads
-use Rattle.c_summaries.proofs.curve_summary.bazintroa_curve_feed.Reads as feed-reads
-use Rattle.c_summaries.proofs.curve_summary.bazintroa_curve_join.Reads as join-reads
-use Rattle.c_summaries.proofs.curve_summary.bazintroa_curve_closest_approach.Reads as approach-reads
+use Rattle.c_summaries.proofs.curve_summary.bazintroa_curve_empty.Reads as empty_reads
+use Rattle.c_summaries.proofs.curve_summary.bazintroa_curve_feed.Reads as feed_reads
+use Rattle.c_summaries.proofs.curve_summary.bazintroa_curve_join.Reads as join_reads
+use Rattle.c_summaries.proofs.curve_summary.bazintroa_curve_closest_approach.Reads as approach_reads
 
 -- ---- the calls, by their contracts
 
 -- p is what a call of `bazintroa_curve_empty` returned
 abbrev pub Made : CurvePlain → Type 0
-Made p = Returned empty-reads.Learnt tt p
+Made p = Returned empty_reads.Learnt tt p
 
 -- q is the summary that a call of `bazintroa_curve_feed` on p returned, with slices that hold the part's two lists
 abbrev pub FedBy : CurvePlain → Part → CurvePlain → Type 0
-FedBy p x q = FedLists (x.re ∷ x.im ∷ []) feed-reads.Learnt (λ r. r.summary) p q
+FedBy p x q = FedLists (x.re ∷ x.im ∷ []) feed_reads.Learnt (λ r. r.summary) p q
 
 -- r is what a call of `bazintroa_curve_join` on p and q returned
 abbrev pub JoinedBy : CurvePlain → CurvePlain → CurvePlain → Type 0
-JoinedBy p q r = Returned join-reads.Learnt (p, (q, tt)) r
+JoinedBy p q r = Returned join_reads.Learnt (p, (q, tt)) r
 
 -- r is what a call of `bazintroa_curve_closest_approach` on p returned
 abbrev pub ApproachOf : CurvePlain → Float → Type 0
-ApproachOf p r = Returned approach-reads.Learnt (p, tt) r
+ApproachOf p r = Returned approach_reads.Learnt (p, tt) r
 
 -- p are plain numbers that the list of calls may leave
 abbrev pub Reaches : Calls Part → CurvePlain → Type 0

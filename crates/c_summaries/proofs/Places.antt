@@ -12,19 +12,19 @@ use Rattle.nyquist.specs.Plain as curve
 use Rattle.nyquist.specs.declared.summary.CurveSummary.{CurveSummary}
 use Rattle.nyquist.specs.declared.summary.CurvePlain.{CurvePlain}
 use Rattle.c_summaries.specs.Fed.{fed_bode, fed_sensitivity, fed_curve}
-use Rattle.c_summaries.specs.contracts.bode_summary.BodePlainFed as bode-type
-use Rattle.c_summaries.specs.contracts.sensitivity_summary.SensitivityPlainFed as sensitivity-type
-use Rattle.c_summaries.specs.contracts.curve_summary.CurvePlainFed as curve-type
+use Rattle.c_summaries.specs.contracts.bode_summary.BodePlainFed as bode_type
+use Rattle.c_summaries.specs.contracts.sensitivity_summary.SensitivityPlainFed as sensitivity_type
+use Rattle.c_summaries.specs.contracts.curve_summary.CurvePlainFed as curve_type
 
-pub bode_places : (n : ℕ) (t : BodeSummary) (s : BodePlain) → (bode-type.struct).as_values (fed_bode n t s) ≡ (n, (0, (left_after n s (bode.plain_of t), tt)))
+pub bode_places : (n : ℕ) (t : BodeSummary) (s : BodePlain) → (bode_type.struct).as_values (fed_bode n t s) ≡ (n, (0, (left_after n s (bode.plain_of t), tt)))
 unfolding fed_bode
 bode_places n t s = refl
 
 pub sensitivity_places : (n : ℕ) (t : SensitivitySummary) (s : SensitivityPlain)
-    → (sensitivity-type.struct).as_values (fed_sensitivity n t s) ≡ (n, (0, (left_after n s (sensitivity.plain_of t), tt)))
+    → (sensitivity_type.struct).as_values (fed_sensitivity n t s) ≡ (n, (0, (left_after n s (sensitivity.plain_of t), tt)))
 unfolding fed_sensitivity
 sensitivity_places n t s = refl
 
-pub curve_places : (n : ℕ) (t : CurveSummary) (s : CurvePlain) → (curve-type.struct).as_values (fed_curve n t s) ≡ (n, (0, (left_after n s (curve.plain_of t), tt)))
+pub curve_places : (n : ℕ) (t : CurveSummary) (s : CurvePlain) → (curve_type.struct).as_values (fed_curve n t s) ≡ (n, (0, (left_after n s (curve.plain_of t), tt)))
 unfolding fed_curve
 curve_places n t s = refl

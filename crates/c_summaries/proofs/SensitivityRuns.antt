@@ -22,33 +22,33 @@ use Rattle.sensitivity.proofs.Plain.{plain_back}
 use Rattle.laws.specs.Outcome.{Outcome, Answers}
 use Rattle.c_summaries.specs.Fed.{fed_sensitivity}
 use Rattle.c_summaries.specs.declared.sensitivity_summary.SensitivityPlainFed.{SensitivityPlainFed}
-use Rattle.c_summaries.proofs.sensitivity_summary.bazintroa_sensitivity_empty.Reads as empty-reads
-use Rattle.c_summaries.proofs.sensitivity_summary.bazintroa_sensitivity_feed.Reads as feed-reads
-use Rattle.c_summaries.proofs.sensitivity_summary.bazintroa_sensitivity_join.Reads as join-reads
-use Rattle.c_summaries.proofs.sensitivity_summary.bazintroa_sensitivity_summary_crossover.Reads as crossover-reads
-use Rattle.c_summaries.proofs.sensitivity_summary.bazintroa_sensitivity_summary_bandwidth.Reads as bandwidth-reads
+use Rattle.c_summaries.proofs.sensitivity_summary.bazintroa_sensitivity_empty.Reads as empty_reads
+use Rattle.c_summaries.proofs.sensitivity_summary.bazintroa_sensitivity_feed.Reads as feed_reads
+use Rattle.c_summaries.proofs.sensitivity_summary.bazintroa_sensitivity_join.Reads as join_reads
+use Rattle.c_summaries.proofs.sensitivity_summary.bazintroa_sensitivity_summary_crossover.Reads as crossover_reads
+use Rattle.c_summaries.proofs.sensitivity_summary.bazintroa_sensitivity_summary_bandwidth.Reads as bandwidth_reads
 
 -- ---- the calls, by their contracts
 
 -- p is what a call of `bazintroa_sensitivity_empty` returned
 abbrev pub Made : SensitivityPlain → Type 0
-Made p = Returned empty-reads.Learnt tt p
+Made p = Returned empty_reads.Learnt tt p
 
 -- q is the summary that a call of `bazintroa_sensitivity_feed` on p returned, with slices that hold the part's three lists
 abbrev pub FedBy : SensitivityPlain → Part → SensitivityPlain → Type 0
-FedBy p x q = FedLists (x.omega ∷ x.s ∷ x.t ∷ []) feed-reads.Learnt (λ r. r.summary) p q
+FedBy p x q = FedLists (x.omega ∷ x.s ∷ x.t ∷ []) feed_reads.Learnt (λ r. r.summary) p q
 
 -- r is what a call of `bazintroa_sensitivity_join` on p and q returned
 abbrev pub JoinedBy : SensitivityPlain → SensitivityPlain → SensitivityPlain → Type 0
-JoinedBy p q r = Returned join-reads.Learnt (p, (q, tt)) r
+JoinedBy p q r = Returned join_reads.Learnt (p, (q, tt)) r
 
 -- a call of `bazintroa_sensitivity_summary_crossover` on p returned r and left `after` in a place that held `before`
 abbrev pub CrossoverOf : SensitivityPlain → ℕ → Float → Float → Type 0
-CrossoverOf p r before after = Answered crossover-reads.Learnt p r before after
+CrossoverOf p r before after = Answered crossover_reads.Learnt p r before after
 
 -- the same of `bazintroa_sensitivity_summary_bandwidth`
 abbrev pub BandwidthOf : SensitivityPlain → ℕ → Float → Float → Type 0
-BandwidthOf p r before after = Answered bandwidth-reads.Learnt p r before after
+BandwidthOf p r before after = Answered bandwidth_reads.Learnt p r before after
 
 -- p are plain numbers that the list of calls may leave
 abbrev pub Reaches : Calls Part → SensitivityPlain → Type 0

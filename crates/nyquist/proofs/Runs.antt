@@ -18,28 +18,28 @@ use Rattle.nyquist.specs.Summary.{summary_of, fed_by, join_of, number_of_fed, le
 use Rattle.nyquist.specs.declared.summary.CurveSummary.{CurveSummary}
 use Rattle.nyquist.specs.declared.summary.CurveFed.TheVariants.{Taken, Refused}
 use Rattle.nyquist.proofs.Joins.{fed_append, join_append, approach_answer_lem}
-use Rattle.nyquist.proofs.summary.CurveSummary.empty.Reads as empty-reads
-use Rattle.nyquist.proofs.summary.CurveSummary.feed.Reads as feed-reads
-use Rattle.nyquist.proofs.summary.CurveSummary.join.Reads as join-reads
-use Rattle.nyquist.proofs.summary.CurveSummary.closest_approach.Reads as approach-reads
+use Rattle.nyquist.proofs.summary.CurveSummary.empty.Reads as empty_reads
+use Rattle.nyquist.proofs.summary.CurveSummary.feed.Reads as feed_reads
+use Rattle.nyquist.proofs.summary.CurveSummary.join.Reads as join_reads
+use Rattle.nyquist.proofs.summary.CurveSummary.closest_approach.Reads as approach_reads
 
 -- ---- the calls, by their contracts
 
 -- s is what a call of `empty` returned
 abbrev pub Made : CurveSummary → Type 0
-Made s = Returned empty-reads.Learnt tt s
+Made s = Returned empty_reads.Learnt tt s
 
 -- t is the summary that the caller has after a call of `feed` on s with slices that hold the part's two lists
 abbrev pub FedBy : CurveSummary → Part → CurveSummary → Type 0
-FedBy s p t = FedLists (p.re ∷ p.im ∷ []) feed-reads.Learnt (λ r. left_by r s) s t
+FedBy s p t = FedLists (p.re ∷ p.im ∷ []) feed_reads.Learnt (λ r. left_by r s) s t
 
 -- u is what a call of `join` on s and t returned
 abbrev pub JoinedBy : CurveSummary → CurveSummary → CurveSummary → Type 0
-JoinedBy s t u = Returned join-reads.Learnt (s, (t, tt)) u
+JoinedBy s t u = Returned join_reads.Learnt (s, (t, tt)) u
 
 -- r is what a call of `closest_approach` on s returned
 abbrev pub ApproachOf : CurveSummary → Float → Type 0
-ApproachOf s r = Returned approach-reads.Learnt (s, tt) r
+ApproachOf s r = Returned approach_reads.Learnt (s, tt) r
 
 -- s is a summary that the list of calls may leave
 abbrev pub Reaches : Calls Part → CurveSummary → Type 0

@@ -28,8 +28,8 @@ module _ (z₀ z₁ z₂ z₃ z₄ z₅ z₆ z₇ : Complex) where
 -- the plant of the starred loop, b 1, a -0.5, pairs (1, -0) twice: 1 / (1 - 0.5) = 2
 pub plant_value :
     let one = round binary64 false 1 1 in
-    let minus-zero = round binary64 true 0 1 in
-    values_of (value_at (transfer_fn (one ∷ []) (round binary64 true 1 2 ∷ []) 1) (one ∷ one ∷ []) (minus-zero ∷ minus-zero ∷ []))
+    let minus_zero = round binary64 true 0 1 in
+    values_of (value_at (transfer_fn (one ∷ []) (round binary64 true 1 2 ∷ []) 1) (one ∷ one ∷ []) (minus_zero ∷ minus_zero ∷ []))
     ≡ round binary64 false 2 1 ∷ round binary64 false 0 1 ∷ []
 unfolding round of_bits add sub mul div lt magnitude_sq small ratio quotient_or_zero sum_up term_of pair_sum numerator denominator value_at
 plant_value = refl

@@ -128,7 +128,7 @@ module _ (m s excess : ℕ) (lo : 2 ^ 52 ≤ m) (hi : m ≤ 2 ^ 54 - 2) (a : 0 <
 
   pub last : Last
   last =
-      let k-small : k ≤ 27 * 2 ^ 21 = omega (arith, (div-lt_iff_lt-mul {k = s} {x = over} {y = 27 * 2 ^ 21 + 1} s_pos).1 (omega (arith, s_pos))) in
+      let k_small : k ≤ 27 * 2 ^ 21 = omega (arith, (div-lt_iff_lt-mul {k = s} {x = over} {y = 27 * 2 ^ 21 + 1} s_pos).1 (omega (arith, s_pos))) in
       let parts : root + k ≡ s * 2 ^ 22 = omega (arith, s_low) in
       let whole : over / s * s + over % s ≡ over = div-add-mod' over s in
       let sq : (root + k) * (root + k) ≡ s * s * 2 ^ 44 = ap (λ (x : ℕ). x * x) parts ∙ mul-mul-mul_comm s (2 ^ 22) s (2 ^ 22) in
@@ -137,8 +137,8 @@ module _ (m s excess : ℕ) (lo : 2 ^ 52 ≤ m) (hi : m ≤ 2 ^ 54 - 2) (a : 0 <
         low = s_low;
         high = s_high;
         rest = mod-lt over s_pos;
-        small = k-small;
-        square = mul-le-mul k-small k-small;
+        small = k_small;
+        square = mul-le-mul k_small k_small;
         exact = omega (arith, square_sum root k, add-mul root k k, mul_comm s k);
       }
 

@@ -60,7 +60,7 @@ split : (q e : ℕ) → 0 < q → q < 2 ^ 53 → 1074 ≤ e → Split (q * 2 ^ e
 split q e p h l =
     let z = size q in
     let Z : z ≤ 53 = size-le q 53 h in
-    let z-pos : 0 < z = lt_of_not-le (λ (g : z ≤ 0). not-le_of_lt (lt_of_lt_of_le (size-lt q) (pow_mono g)) p) in
+    let z_pos : 0 < z = lt_of_not-le (λ (g : z ≤ 0). not-le_of_lt (lt_of_lt_of_le (size-lt q) (pow_mono g)) p) in
     let k = (e + z - 105) / 2 in
     let j = e - 2 * k in
     let all : j + 2 * k ≡ e = omega arith in
@@ -229,13 +229,13 @@ rooted x h p =
     let q = g.1 in
     let j = g.2 in
     let v : HasValue x false (q * 2 ^ j) (2 ^ 1074) = subst (λ (s : Bool). HasValue x s (q * 2 ^ j) (2 ^ 1074)) (sign_of x g.0 (q * 2 ^ j) (2 ^ 1074) p g.3) g.3 in
-    let a-pos : 0 < q * 2 ^ j = value_pos x (q * 2 ^ j) (2 ^ 1074) p (pow_pos 1074) v in
+    let a_pos : 0 < q * 2 ^ j = value_pos x (q * 2 ^ j) (2 ^ 1074) p (pow_pos 1074) v in
     let e : q * 2 ^ j * 2 ^ 1074 ≡ q * 2 ^ (j + 1074) = mul_assoc q (2 ^ j) (2 ^ 1074) ∙ ap (λ (y : ℕ). q * y) (sym (pow-add 2 j 1074)) in
-    let s = split q (j + 1074) (first_pos q (2 ^ j) a-pos) g.4 (omega arith) in
+    let s = split q (j + 1074) (first_pos q (2 ^ j) a_pos) g.4 (omega arith) in
     let same : q * 2 ^ j * 2 ^ 1074 ≡ s.0 * 2 ^ (2 * s.1) = e ∙ s.2 in (
       q * 2 ^ j,
       v,
-      subst (λ (w : Float). Rooted (q * 2 ^ j * 2 ^ 1074) w) (sym (sqrt_positive x (q * 2 ^ j) a-pos v))
+      subst (λ (w : Float). Rooted (q * 2 ^ j * 2 ^ 1074) w) (sym (sqrt_positive x (q * 2 ^ j) a_pos v))
           (subst (λ (n : ℕ). Rooted n (rounded n)) (sym same) (rooted_split s.0 s.1 s.3 s.4 (small j s.1 s.5 g.5))),
     )
   where

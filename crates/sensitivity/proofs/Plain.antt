@@ -15,7 +15,7 @@ use Rattle.sensitivity.specs.Summary.{bandwidth_under, summary_of}
 use Rattle.sensitivity.specs.Plain.{plain_of, from_plain}
 use Rattle.sensitivity.specs.declared.Reading.{Reading}
 use Rattle.sensitivity.specs.declared.summary.SensitivitySummary.{SensitivitySummary}
-use Rattle.sensitivity.specs.contracts.Reading as reading-type
+use Rattle.sensitivity.specs.contracts.Reading as reading_type
 use Rattle.sensitivity.specs.contracts.summary.SensitivityPlain as plain_type
 
 pub plain_back : (s : SensitivitySummary) → from_plain (plain_of s) ≡ s
@@ -25,7 +25,7 @@ plain_back s =
 
 -- ---- The fields in memory, one after another. `as_values` and `make` are generated from the struct as it is declared.
 
-pub reading_places : (omega s t : Float) → (reading-type.struct).as_values (reading omega s t) ≡ (omega, (s, (t, tt)))
+pub reading_places : (omega s t : Float) → (reading_type.struct).as_values (reading omega s t) ≡ (omega, (s, (t, tt)))
 reading_places omega s t = refl
 
 pub plain_places : (s : SensitivitySummary)

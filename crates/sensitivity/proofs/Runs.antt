@@ -25,33 +25,33 @@ use Rattle.sensitivity.specs.declared.summary.SensitivitySummary.{SensitivitySum
 use Rattle.sensitivity.specs.declared.summary.SensitivityFed.TheVariants.{Taken, Refused}
 use Rattle.sensitivity.proofs.Laws.{no_crossover_in, none_of_crossover, no_bandwidth_in, none_of_bandwidth, under_mark, without_mark, only_under_mark, none_unmarked}
 use Rattle.sensitivity.proofs.Joins.{fed_append, join_append, crossover_answer_lem, bandwidth_answer_lem}
-use Rattle.sensitivity.proofs.summary.SensitivitySummary.empty.Reads as empty-reads
-use Rattle.sensitivity.proofs.summary.SensitivitySummary.feed.Reads as feed-reads
-use Rattle.sensitivity.proofs.summary.SensitivitySummary.join.Reads as join-reads
-use Rattle.sensitivity.proofs.summary.SensitivitySummary.crossover.Reads as crossover-reads
-use Rattle.sensitivity.proofs.summary.SensitivitySummary.bandwidth.Reads as bandwidth-reads
+use Rattle.sensitivity.proofs.summary.SensitivitySummary.empty.Reads as empty_reads
+use Rattle.sensitivity.proofs.summary.SensitivitySummary.feed.Reads as feed_reads
+use Rattle.sensitivity.proofs.summary.SensitivitySummary.join.Reads as join_reads
+use Rattle.sensitivity.proofs.summary.SensitivitySummary.crossover.Reads as crossover_reads
+use Rattle.sensitivity.proofs.summary.SensitivitySummary.bandwidth.Reads as bandwidth_reads
 
 -- ---- the calls, by their contracts
 
 -- s is what a call of `empty` returned
 abbrev pub Made : SensitivitySummary → Type 0
-Made s = Returned empty-reads.Learnt tt s
+Made s = Returned empty_reads.Learnt tt s
 
 -- t is the summary that the caller has after a call of `feed` on s with slices that hold the part's three lists
 abbrev pub FedBy : SensitivitySummary → Part → SensitivitySummary → Type 0
-FedBy s p t = FedLists (p.omega ∷ p.s ∷ p.t ∷ []) feed-reads.Learnt (λ r. left_by r s) s t
+FedBy s p t = FedLists (p.omega ∷ p.s ∷ p.t ∷ []) feed_reads.Learnt (λ r. left_by r s) s t
 
 -- u is what a call of `join` on s and t returned
 abbrev pub JoinedBy : SensitivitySummary → SensitivitySummary → SensitivitySummary → Type 0
-JoinedBy s t u = Returned join-reads.Learnt (s, (t, tt)) u
+JoinedBy s t u = Returned join_reads.Learnt (s, (t, tt)) u
 
 -- r is what a call of `crossover` on s returned
 abbrev pub CrossoverOf : SensitivitySummary → Crossing → Type 0
-CrossoverOf s r = Returned crossover-reads.Learnt (s, tt) r
+CrossoverOf s r = Returned crossover_reads.Learnt (s, tt) r
 
 -- r is what a call of `bandwidth` on s returned
 abbrev pub BandwidthOf : SensitivitySummary → Kept → Type 0
-BandwidthOf s r = Returned bandwidth-reads.Learnt (s, tt) r
+BandwidthOf s r = Returned bandwidth_reads.Learnt (s, tt) r
 
 -- s is a summary that the list of calls may leave
 abbrev pub Reaches : Calls Part → SensitivitySummary → Type 0

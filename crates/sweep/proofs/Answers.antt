@@ -25,7 +25,8 @@ use Rattle.sweep.proofs.Numbers.{number_known, number_above, number_below}
 
 pub outcome_known : (p q : Answer) → outcome_of p ≡ outcome_of q → p ≡ q
 unfolding outcome_of
-outcome_known (answer.Found x) (answer.Found y) h = let l = found_values h in let e : x ≡ y = cc in rw e
+outcome_known (answer.Found x) (answer.Found y) h =
+    let l = found_values h in let e : x ≡ y = cc in rw e
 outcome_known (answer.Found x) answer.Absent h = absurd (apart h (omega arith))
 outcome_known (answer.Found x) (answer.Refused f) h = absurd (apart h (number_above f))
 outcome_known answer.Absent (answer.Found y) h = absurd (apart (sym h) (omega arith))
@@ -37,14 +38,16 @@ outcome_known (answer.Refused e) (answer.Refused f) h = ap answer.Refused (numbe
 
 pub crossing_known : (p q : Crossing) → crossing_outcome p ≡ crossing_outcome q → p ≡ q
 unfolding crossing_outcome
-crossing_known (crossing.At x) (crossing.At y) h = let l = found_values h in let e : x ≡ y = cc in rw e
+crossing_known (crossing.At x) (crossing.At y) h =
+    let l = found_values h in let e : x ≡ y = cc in rw e
 crossing_known (crossing.At x) crossing.Missing h = absurd (apart h (omega arith))
 crossing_known crossing.Missing (crossing.At y) h = absurd (apart (sym h) (omega arith))
 crossing_known crossing.Missing crossing.Missing h = refl
 
 pub kept_known : (p q : Kept) → kept_outcome p ≡ kept_outcome q → p ≡ q
 unfolding kept_outcome
-kept_known (kept.Found x) (kept.Found y) h = let l = found_values h in let e : x ≡ y = cc in rw e
+kept_known (kept.Found x) (kept.Found y) h =
+    let l = found_values h in let e : x ≡ y = cc in rw e
 kept_known (kept.Found x) kept.Absent h = absurd (apart h (omega arith))
 kept_known (kept.Found x) kept.NotKept h = absurd (apart h (omega arith))
 kept_known kept.Absent (kept.Found y) h = absurd (apart (sym h) (omega arith))
@@ -87,7 +90,8 @@ crossing_kept (crossing.At x) h = omega arith
 crossing_kept crossing.Missing h = omega arith
 
 pub not_zero : (e : FreqError) → number_of e ≡ 0 → ⊥
-not_zero e h = let p = number_above e in omega arith
+not_zero e h =
+    let p = number_above e in omega arith
 
 -- ---- the outcome of a scan whose conditions gave n
 module _ {k : Check} {n : ℕ} (given : refusal_of k ≡ n) (c : Crossing) where

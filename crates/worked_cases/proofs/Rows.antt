@@ -16,7 +16,7 @@ use Rattle.laws.specs.Loops as loops
 use Rattle.laws.specs.Choice as choice
 use Rattle.laws.specs.Outcome as outcomes
 use Rattle.scalar.specs.Scalar as scalar
-use Rattle.scalar.specs.Sqrt as square-root
+use Rattle.scalar.specs.Sqrt as square_root
 use Rattle.complex.specs.Complex as complex
 use Rattle.sweep.specs.Refusal as refusals
 use Rattle.sweep.specs.Answer as answers
@@ -25,12 +25,12 @@ use Rattle.sweep.specs.Runs as runs
 use Rattle.transfer_fn.specs.Evaluation as evaluation
 use Rattle.sensitivity.specs.Responses as responses
 use Rattle.sensitivity.specs.Scans as sensitivity
-use Rattle.sensitivity.specs.Summary as sensitivity-summary
+use Rattle.sensitivity.specs.Summary as sensitivity_summary
 use Rattle.bode.specs.Bode as bode
-use Rattle.bode.specs.Summary as bode-summary
+use Rattle.bode.specs.Summary as bode_summary
 use Rattle.nyquist.specs.Curve as curve
 use Rattle.nyquist.specs.Frequency as frequency
-use Rattle.nyquist.specs.Summary as curve-summary
+use Rattle.nyquist.specs.Summary as curve_summary
 use Rattle.root_locus.specs.Gain as gain
 use Rattle.root_locus.specs.Polynomial as polynomial
 use Rattle.root_locus.specs.StartingPoints as starting
@@ -125,7 +125,7 @@ unfolding same_outcome outcome
     choice.lesser choice.greater
     outcomes.answered
     scalar.abs_of
-    square-root.sqrt_of
+    square_root.sqrt_of
     complex.new_of complex.from_real complex.product complex.difference complex.magnitude_sq complex.magnitude_of complex.small complex.inverse complex.ratio complex.reciprocal_of complex.quotient complex.quotient_or_zero
     refusals.scan_refusal refusals.lists_refusal refusals.grid_refusal
     answers.crossing_outcome answers.kept_outcome answers.kept_of answers.or_kept answers.scanned answers.gridded
@@ -134,14 +134,14 @@ unfolding same_outcome outcome
     evaluation.sum_up evaluation.term_of evaluation.pair_sum evaluation.numerator evaluation.denominator evaluation.value_at evaluation.evaluation_refusal evaluation.evaluation
     responses.response_by
     sensitivity.difference sensitivity.equal_between sensitivity.equal_pair sensitivity.sensitivity_crossover sensitivity.level_of sensitivity.drop_between sensitivity.drop_pair sensitivity.bandwidth_of
-    sensitivity-summary.bandwidth_under sensitivity-summary.summary_of sensitivity-summary.drop_behind sensitivity-summary.fed_by sensitivity-summary.join_of sensitivity-summary.crossover_answer sensitivity-summary.bandwidth_answer sensitivity-summary.part_readings
+    sensitivity_summary.bandwidth_under sensitivity_summary.summary_of sensitivity_summary.drop_behind sensitivity_summary.fed_by sensitivity_summary.join_of sensitivity_summary.crossover_answer sensitivity_summary.bandwidth_answer sensitivity_summary.part_readings
     bode.gain_between bode.phase_between bode.gain_pair bode.phase_pair bode.gain_crossover bode.phase_crossover bode.part_of_way bode.value_at bode.gain_margin_between bode.phase_margin_between bode.gain_margin_pair bode.phase_margin_pair bode.margin_at bode.gain_margin bode.phase_margin
-    bode-summary.summary_of bode-summary.behind bode-summary.fed_by bode-summary.join_of bode-summary.gain_answer bode-summary.phase_answer bode-summary.part_readings
+    bode_summary.summary_of bode_summary.behind bode_summary.fed_by bode_summary.join_of bode_summary.gain_answer bode_summary.phase_answer bode_summary.part_readings
     curve.points curve.from_critical curve.point_distance curve.least_distance curve.or_zero curve.distance_of curve.distance_outcome curve.point_square
     frequency.frequency_at frequency.frequency_outcome frequency.frequency_grid
-    curve-summary.key_of curve-summary.nearest_of curve-summary.summary_of curve-summary.behind curve-summary.fed_by curve-summary.join_of curve-summary.approach_answer
+    curve_summary.key_of curve_summary.nearest_of curve_summary.summary_of curve_summary.behind curve_summary.fed_by curve_summary.join_of curve_summary.approach_answer
     curve.curve_refusal
-    curve-summary.part_points
+    curve_summary.part_points
     gain.gain_at gain.gain_outcome gain.gain_grid
     polynomial.coefficient polynomial.loop_polynomial polynomial.counting
     starting.start_table starting.as_complex starting.first_point starting.starting_point starting.starting_points

@@ -14,15 +14,15 @@ use Rattle.transfer_fn.specs.declared.TransferFn.{TransferFn}
 use Rattle.transfer_fn.specs.Evaluation.{evaluation}
 use Rattle.sensitivity.specs.declared.LoopShaping.{LoopShaping}
 use Rattle.sensitivity.specs.Responses.{response_by, loop_gain, sensitivity, comp_sensitivity, control_sensitivity}
-use Rattle.sensitivity.specs.Scans as sensitivity-scans
-use Rattle.sensitivity.specs.Summary as sensitivity-summary
+use Rattle.sensitivity.specs.Scans as sensitivity_scans
+use Rattle.sensitivity.specs.Summary as sensitivity_summary
 use Rattle.sensitivity.specs.declared.summary.SensitivitySummary.{SensitivitySummary}
 use Rattle.bode.specs.Bode as bode
-use Rattle.bode.specs.Summary as bode-summary
+use Rattle.bode.specs.Summary as bode_summary
 use Rattle.bode.specs.declared.summary.BodeSummary.{BodeSummary}
 use Rattle.nyquist.specs.Curve as curve
 use Rattle.nyquist.specs.Frequency as frequency
-use Rattle.nyquist.specs.Summary as curve-summary
+use Rattle.nyquist.specs.Summary as curve_summary
 use Rattle.nyquist.specs.declared.summary.CurveSummary.{CurveSummary}
 use Rattle.root_locus.specs.Gain as gain
 use Rattle.root_locus.specs.Polynomial.{loop_polynomial}
@@ -43,13 +43,13 @@ tf b a = record { b = take 8 (b ++ replicate 8 f0); a = take 8 (a ++ replicate 8
 
 -- a sweep of ω, dB and phase; a sweep of ω, S and T; a curve's real and imaginary parts
 abbrev pub Bode : Type 0
-Bode = bode-summary.Part
+Bode = bode_summary.Part
 
 abbrev pub Sensitivity : Type 0
-Sensitivity = sensitivity-summary.Part
+Sensitivity = sensitivity_summary.Part
 
 abbrev pub Curve : Type 0
-Curve = curve-summary.Part
+Curve = curve_summary.Part
 
 -- The functions by their names in the Rust. A locus point is point i of n up to k_max, `stability_at` is the stability of its poles, `locus_ending` how the search
 -- for them ended, and `start_at` is where the search of a degree starts for root i; a grid has its top, its n and the lent list. The last five are answers of a summary after a list of calls.
@@ -98,22 +98,22 @@ with_list o l = record { number = o.number; values = l }
 
 -- what a list of calls leaves of each kind of sweep, by the definitions of its summary
 abbrev bode_fed : BodeSummary → Bode → BodeSummary
-bode_fed s p = left_after (lists_refusal p.omega p.db p.phase) s (bode-summary.fed_by s (bode-summary.part_readings p))
+bode_fed s p = left_after (lists_refusal p.omega p.db p.phase) s (bode_summary.fed_by s (bode_summary.part_readings p))
 
 abbrev bode_left : Calls Bode → BodeSummary
-bode_left c = run_of (bode-summary.summary_of [] false) bode_fed bode-summary.join_of c
+bode_left c = run_of (bode_summary.summary_of [] false) bode_fed bode_summary.join_of c
 
 abbrev sensitivity_fed : SensitivitySummary → Sensitivity → SensitivitySummary
-sensitivity_fed s p = left_after (lists_refusal p.omega p.s p.t) s (sensitivity-summary.fed_by s (sensitivity-summary.part_readings p))
+sensitivity_fed s p = left_after (lists_refusal p.omega p.s p.t) s (sensitivity_summary.fed_by s (sensitivity_summary.part_readings p))
 
 abbrev sensitivity_left : Calls Sensitivity → SensitivitySummary
-sensitivity_left c = run_of (sensitivity-summary.summary_of [] false) sensitivity_fed sensitivity-summary.join_of c
+sensitivity_left c = run_of (sensitivity_summary.summary_of [] false) sensitivity_fed sensitivity_summary.join_of c
 
 abbrev curve_fed : CurveSummary → Curve → CurveSummary
-curve_fed s p = left_after (curve.curve_refusal p.re p.im) s (curve-summary.fed_by s (curve-summary.part_points p))
+curve_fed s p = left_after (curve.curve_refusal p.re p.im) s (curve_summary.fed_by s (curve_summary.part_points p))
 
 abbrev curve_left : Calls Curve → CurveSummary
-curve_left c = run_of (curve-summary.summary_of [] false) curve_fed curve-summary.join_of c
+curve_left c = run_of (curve_summary.summary_of [] false) curve_fed curve_summary.join_of c
 
 -- by the definition that the function's contract cites
 unfoldable pub outcome : Case → Outcome
@@ -137,16 +137,16 @@ outcome (gain_crossover p) = scanned_by bode.reading bode.gain_crossover p.omega
 outcome (phase_crossover p) = scanned_by bode.reading bode.phase_crossover p.omega p.db p.phase
 outcome (gain_margin p) = scanned_by bode.reading bode.gain_margin p.omega p.db p.phase
 outcome (phase_margin p) = scanned_by bode.reading bode.phase_margin p.omega p.db p.phase
-outcome (sensitivity_crossover p) = scanned_by sensitivity-scans.reading sensitivity-scans.sensitivity_crossover p.omega p.s p.t
-outcome (bandwidth p) = scanned_by sensitivity-scans.reading sensitivity-scans.bandwidth_of p.omega p.s p.t
+outcome (sensitivity_crossover p) = scanned_by sensitivity_scans.reading sensitivity_scans.sensitivity_crossover p.omega p.s p.t
+outcome (bandwidth p) = scanned_by sensitivity_scans.reading sensitivity_scans.bandwidth_of p.omega p.s p.t
 outcome (distance_to_critical p) = curve.distance_outcome p.re p.im
 outcome (gain_grid top n l) = with_list (gain.gain_outcome top n l) (gain.gain_grid top n l)
 outcome (frequency_grid top n l) = with_list (frequency.frequency_outcome top n l) (frequency.frequency_grid top n l)
-outcome (gain_of_summary c) = bode-summary.gain_answer (bode_left c)
-outcome (phase_of_summary c) = bode-summary.phase_answer (bode_left c)
-outcome (crossover_of_summary c) = sensitivity-summary.crossover_answer (sensitivity_left c)
-outcome (bandwidth_of_summary c) = sensitivity-summary.bandwidth_answer (sensitivity_left c)
-outcome (approach_of_summary c) = found (curve-summary.approach_answer (curve_left c) ∷ [])
+outcome (gain_of_summary c) = bode_summary.gain_answer (bode_left c)
+outcome (phase_of_summary c) = bode_summary.phase_answer (bode_left c)
+outcome (crossover_of_summary c) = sensitivity_summary.crossover_answer (sensitivity_left c)
+outcome (bandwidth_of_summary c) = sensitivity_summary.bandwidth_answer (sensitivity_left c)
+outcome (approach_of_summary c) = found (curve_summary.approach_answer (curve_left c) ∷ [])
 
 -- ---- a table
 

@@ -39,7 +39,8 @@ roots-preserved c =
     c.sub-in-roots.ensures)
 
 pub rounds-preserved : goal.rounds-preserved
-rounds-preserved c = let e = up_end _ _ c.roots.invariant c.roots-test.false in
+rounds-preserved c =
+    let e = up_end _ _ c.roots.invariant c.roots-test.false in
     (refl, round_more _ 200 _ _ c.rounds.invariant.1 c.rounds-test.true e c.if-max_change.false)
 
 pub returns : goal.returns

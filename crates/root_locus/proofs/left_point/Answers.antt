@@ -10,5 +10,6 @@ returns-then-roots c = c.turned_away.ensures ∙ rw (sym (ap (λ (r : Roots). r.
 
 pub returns : goal.returns
 unfolding point_of left_point found_point degree_cases
-returns c = let e = c.compute_closed_loop_poles-roots.ensures in
+returns c =
+    let e = c.compute_closed_loop_poles-roots.ensures in
     rw (sym (ap (λ (r : Roots). r.cubic) e) ∙ c.if-roots.false, e)

@@ -9,9 +9,11 @@ pub loop-i-init : goal.loop-i-init
 loop-i-init c = (search rules, (search rules, filled_more _ nine_zeros (filled_none _ nine_zeros) (search rules) (coefficient_first _ _)))
 
 pub loop-i-preserved : goal.loop-i-preserved
-loop-i-preserved c = let inv = c.loop-i.invariant in
+loop-i-preserved c =
+    let inv = c.loop-i.invariant in
     (search rules, (search rules, filled_more _ nine_zeros inv.1.1 (search rules) (coefficient_middle _ _ _ inv.0 (search rules))))
 
 pub returns : goal.returns
-returns c = let inv = c.loop-i.invariant in
+returns c =
+    let inv = c.loop-i.invariant in
     filled_more _ nine_zeros (arrived (filled _ nine_zeros) inv.1.1 inv.1.0 (search rules)) (search rules) (coefficient_last _ _ (search rules))

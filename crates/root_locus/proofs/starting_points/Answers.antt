@@ -14,5 +14,6 @@ loop-i-preserved c = (search rules, filled_more _ eight_zeros c.loop-i.invariant
 
 pub returns : goal.returns
 unfolding starting_points
-returns c = let inv = c.loop-i.invariant in
+returns c =
+    let inv = c.loop-i.invariant in
     arrived (filled _ eight_zeros) inv.1 inv.0 (search rules) ∙ filled_padded _ _

@@ -14,7 +14,8 @@ pub overflow_sub-exponent : goal.overflow_sub-exponent
 overflow_sub-exponent c = omega (arith, high c)
 
 pub loop-significand-preserved : goal.loop-significand-preserved
-loop-significand-preserved c = let at = c.loop-significand in
+loop-significand-preserved c =
+    let at = c.loop-significand in
     let one : 1 ≤ at.exponent = omega (arith, high c) in
     omega (arith, moved at.significand at.exponent one)
 

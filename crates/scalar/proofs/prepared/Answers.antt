@@ -23,7 +23,8 @@ pub radicand-requires : goal.radicand-requires
 radicand-requires c = positive_bits (to_bits binary64 c.args.x) (to_bits-lt binary64 c.args.x (held c)) (subst (λ (v : Float). T (positive v)) (sym (back c.args.x (held c))) c.requires)
 
 pub returns : goal.returns
-returns c = let first = c.radicand in
+returns c =
+    let first = c.radicand in
     let e = c.evened.ensures in
     let kept = sym c.normalized.ensures.0 ∙ sym e.0 in (
       ap sqrt_of (sym (back c.args.x (subst T (sym c.well_formed.0.1) tt)))

@@ -9,7 +9,8 @@ use Rattle.sensitivity.proofs.drop_below.Goals as goal
 
 pub returns-then-has_pair : goal.returns-then-has_pair
 unfolding drop_pair first_index
-returns-then-has_pair c = let same = c.requires in
+returns-then-has_pair c =
+    let same = c.requires in
     let level = c.args.level in
     scan_found reading (drop_pair level) (crosses_at (Drop level) c.args.t.now) (drop_between level) c.args.omega.now c.args.s.now c.args.t.now
     (length c.args.t.now) (sym same.third) (same.second ∙ sym same.third) refl (λ k. refl)
@@ -17,7 +18,8 @@ returns-then-has_pair c = let same = c.requires in
 
 pub returns : goal.returns
 unfolding drop_pair first_index
-returns c = let same = c.requires in
+returns c =
+    let same = c.requires in
     let level = c.args.level in
     scan_missing reading (drop_pair level) (crosses_at (Drop level) c.args.t.now) (drop_between level) c.args.omega.now c.args.s.now c.args.t.now
     (length c.args.t.now) (sym same.third) (same.second ∙ sym same.third) refl (λ k. refl)

@@ -7,7 +7,8 @@ use Rattle.transfer_fn.proofs.Conditions.{fitting}
 use Rattle.transfer_fn.proofs.eval_tf_complex.Goals as goal
 
 pub value_at-requires : goal.value_at-requires
-value_at-requires c = let f = fitting _ _ _ (let_through c.check_evaluation.ensures c.in-Passed.is) in omega arith
+value_at-requires c =
+    let f = fitting _ _ _ (let_through c.check_evaluation.ensures c.in-Passed.is) in omega arith
 
 pub returns-in-Refused : goal.returns-in-Refused
 unfolding outcome_of evaluation

@@ -10,10 +10,12 @@ loop-k-init c = (search rules, (sum_none _ _, sum_none _ _))
 
 pub loop-k-preserved : goal.loop-k-preserved
 unfolding term_of
-loop-k-preserved c = let inv = c.loop-k.invariant in
+loop-k-preserved c =
+    let inv = c.loop-k.invariant in
     (search rules, (sum_more _ _ inv.1.0 refl, sum_more _ _ inv.1.1 refl))
 
 pub returns : goal.returns
 unfolding pair_sum
-returns c = let inv = c.loop-k.invariant in
+returns c =
+    let inv = c.loop-k.invariant in
     rw (arrived (sum_up _ _) inv.1.0 inv.0 (search rules), arrived (sum_up _ _) inv.1.1 inv.0 (search rules))

@@ -7,7 +7,8 @@ use Rattle.wire.proofs.f64_to_bits.Goals as goal
 
 is_number : (x : Float) → ne x x ≡ false → T (not (is_nan x))
 unfolding is_nan
-is_number nan e = let z : true ≡ false = rw nan_differs at e in absurd (subst (λ (b : _). T (not b)) (sym z) tt)
+is_number nan e =
+    let z : true ≡ false = rw nan_differs at e in absurd (subst (λ (b : _). T (not b)) (sym z) tt)
 is_number (inf s) e = tt
 is_number (fin s m x) e = tt
 

@@ -16,5 +16,6 @@ returns-then-n-at c = rw (lt-leb (c.args.at + 8) (length c.args.b.now) (omega ar
 
 pub returns : goal.returns
 unfolding u64_at
-returns c = let a = c.args in
+returns c =
+    let a = c.args in
     rw (le-leb (a.at + 8) (length a.b.now) (omega arith)) (omega (arith, in_parts 4 4 a.at a.b.now))

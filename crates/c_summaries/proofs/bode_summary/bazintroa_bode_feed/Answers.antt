@@ -6,5 +6,6 @@ use Rattle.c_summaries.proofs.bode_summary.bazintroa_bode_feed.Goals as goal
 
 pub returns : goal.returns
 unfolding fed_bode
-returns c = let h = rw c.from_plain.ensures at c.feed.ensures in
+returns c =
+    let h = rw c.from_plain.ensures at c.feed.ensures in
     c.put_fed.ensures ∙ rw (h.0, h.1, left_once plain_of)

@@ -13,7 +13,8 @@ pub loop-i-init : goal.loop-i-init
 loop-i-init c = nearing_begin _ _ (search rules)
 
 pub loop-i-preserved : goal.loop-i-preserved
-loop-i-preserved c = let inv = c.loop-i.invariant in
+loop-i-preserved c =
+    let inv = c.loop-i.invariant in
     let e = c.point_square-square.ensures in
     elim c.if-square-least.branch [
       | then-square-least w ↦ nearing_taken _ _ inv (omega arith) e w.if-square-least.true w.least-is w.at-is

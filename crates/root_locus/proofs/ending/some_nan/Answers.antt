@@ -11,7 +11,8 @@ returns-then-root-2 c = nan_im _ _ _ c.loop-i.invariant.0 c.loop-i.invariant.1 c
     (sym (ne_itself _) ∙ c.if-root-2.true)
 
 pub loop-i-preserved : goal.loop-i-preserved
-loop-i-preserved c = let inv = c.loop-i.invariant in
+loop-i-preserved c =
+    let inv = c.loop-i.invariant in
     (inv.0, numbers_next _ _ _ inv.0 inv.1 c.loop-i-test.true (sym (ne_itself _) ∙ c.if-root.false) (sym (ne_itself _) ∙ c.if-root-2.false))
 
 pub returns : goal.returns
