@@ -1,8 +1,8 @@
 //! Links the archives of exported functions. They are kept in host/archives/, by what decides them; `rt`
 //! proves the crates and writes the archives where there are none.
 //!
-//! host/archives/ is in no folder named target/: `rt ci` removes the one, `cargo clean` the other, and
-//! each dependent crate has one of its own.
+//! host/archives/ is in no folder named target/ or out/: `rt ci` sets aside the out/ of each crate, `cargo clean` removes
+//! cargo's target/, and each dependent crate has one of its own.
 
 #[path = "build/archives.rs"]
 mod archives;
@@ -16,7 +16,7 @@ use std::{env, process};
 
 use archives::{file, Archives};
 
-/// The crates that export functions.
+/// The crates whose functions are exported, each by a thin crate NAME_c.
 const EXPORTING: [&str; 3] = ["c_api", "c_summaries", "panel"];
 
 fn main() {
@@ -56,7 +56,11 @@ fn link(printed: &mut bool) -> Result<(), String> {
         println!("cargo::rustc-link-lib=static={name}");
     }
     println!("cargo::rustc-link-search=native={}", out.display());
-    println!("cargo::rerun-if-changed=../crates");
+    // Not ../crates: what `rt` writes there would have each build come after a change. A new crate changes crates.txt.
+    for folder in archives.folders()? {
+        let folder = folder.strip_prefix(&host).unwrap_or(&folder);
+        println!("cargo::rerun-if-changed={}", folder.display());
+    }
     println!("cargo::rerun-if-changed=../crates.txt");
     Ok(())
 }

@@ -2,8 +2,8 @@
  * Frequency-domain analysis of a discrete-time control loop, for hosts in C.
  *
  * Every function is proved: docs/STATEMENTS.md says what each one promises, for every
- * argument. `rt staticlib c_api` writes target/staticlib/libc_api.a; the summaries are in
- * libc_summaries.a and the panel in libpanel.a, which `rt staticlib` writes likewise.
+ * argument. `tools/archives/run` writes target/staticlib/libc_api.a; the summaries are in
+ * libc_summaries.a and the panel in libpanel.a, which it writes likewise.
  *
  * Numbers. A function that may turn a call away returns
  *     0    BAZINTROA_OK                       a result: the places have been written

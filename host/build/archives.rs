@@ -14,10 +14,11 @@ pub use sha256::sha256;
 /// and stdout, is for `rt ci` alone.
 const DECIDING: [&str; 3] = ["src", "specs", "proofs"];
 
-/// The archives of some crates of a repository.
+/// The archives of some crates of a repository. That of a crate NAME is the static library of the thin crate
+/// NAME_c, which exports the functions of NAME.
 pub struct Archives<'a> {
     pub repository: &'a Path,
-    /// The crates that export functions.
+    /// The crates whose functions are exported.
     pub crates: &'a [&'a str],
     /// The folder in which archives are kept: KEPT/SOURCES/TOOLCHAIN/libNAME.a, where SOURCES is the digest
     /// of what was proved and TOOLCHAIN that of what `rt version` said.
@@ -61,17 +62,23 @@ impl Archives<'_> {
         Ok(archives)
     }
 
+    /// The folders whose files decide the archives: those of every crate, the thin ones too. What `rt` writes into a
+    /// crate, out/, is none of them.
+    pub fn folders(&self) -> Result<Vec<PathBuf>, String> {
+        let crates = listed(&self.repository.join("crates"))?;
+        let parts = crates
+            .iter()
+            .flat_map(|folder| DECIDING.map(|part| folder.join(part)));
+        Ok(parts.filter(|part| part.is_dir()).collect())
+    }
+
     /// The digest of what decides the archives: which crates they are of, crates.txt, and the name and the
     /// contents of each file that decides.
     pub fn sources(&self) -> Result<String, String> {
         let crates = self.repository.join("crates");
         let mut files = Vec::new();
-        for folder in listed(&crates)? {
-            for part in DECIDING.map(|part| folder.join(part)) {
-                if part.is_dir() {
-                    collect(&part, &mut files)?;
-                }
-            }
+        for folder in self.folders()? {
+            collect(&folder, &mut files)?;
         }
         files.sort();
         let mut bytes = Vec::new();
@@ -171,13 +178,15 @@ impl Archives<'_> {
         Ok(file)
     }
 
-    /// Has `rt` write the archive of a crate, which it does once it has proved it.
+    /// Has `rt` write the archive of a crate, which it does once it has proved the thin crate and those below it.
     fn prove(&self, name: &str, show: &mut dyn FnMut(&str)) -> Result<Vec<u8>, String> {
+        let thin = format!("{name}_c");
+        let folder = self.repository.join("crates").join(&thin);
         let mut run = || {
             let (lines, printed) = io::pipe()?;
             let mut child = Command::new(&self.rt)
-                .args(["staticlib", name])
-                .current_dir(self.repository)
+                .arg("lib")
+                .current_dir(&folder)
                 .stdout(printed.try_clone()?)
                 .stderr(printed)
                 .spawn()?;
@@ -188,9 +197,9 @@ impl Archives<'_> {
         };
         let status = run().map_err(|error| format!("cannot run `rt`: {error}"))?;
         if !status.success() {
-            return Err(format!("`rt staticlib {name}` failed, {status}"));
+            return Err(format!("`rt lib` in crates/{thin} failed, {status}"));
         }
-        read(&self.repository.join("target/staticlib").join(file(name)))
+        read(&folder.join("out").join(file(&thin)))
     }
 }
 

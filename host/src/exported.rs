@@ -1,6 +1,7 @@
-//! The functions of `crates/c_api`, `c_summaries` and `panel` as they are exported. A `u32` that is
-//! returned is document 01's number: 0 for a result, 100 for none, 101 for what is not kept, or the
-//! refusal. A place that is lent for the result is written only on 0.
+//! The functions of `crates/c_api`, `c_summaries` and `panel` as the thin crates `c_api_c`,
+//! `c_summaries_c` and `panel_c` export them. A `u32` that is returned is document 01's number: 0 for
+//! a result, 100 for none, 101 for what is not kept, or the refusal. A place that is lent for the
+//! result is written only on 0.
 
 use crate::bode::Reading;
 

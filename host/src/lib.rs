@@ -1,4 +1,5 @@
-//! Safe functions over the proved archives of `crates/c_api`, `c_summaries` and `panel`.
+//! Safe functions over the proved archives of `crates/c_api`, `c_summaries` and `panel`, which the thin crates
+//! `c_api_c`, `c_summaries_c` and `panel_c` export.
 //!
 //! What is taken from the Rust that was ported, `core::frequency_domain` of oxictl, has its meaning
 //! and its name, but for these: [`Refusal`] is `FreqError` there, which has four cases; [`Reading`] is

@@ -14,8 +14,8 @@ use std::thread;
 
 const CRATES: [&str; 2] = ["low", "high"];
 
-/// A repository of two crates, with a script for `rt` that counts its calls. Its files are not named as
-/// Rattle's are: the real `rt` refuses one that stands below the repository and in no crate.
+/// A repository of two crates, each with a thin one, and a script for `rt` that counts its calls. Its files are not
+/// named as Rattle's are: the real `rt` refuses one that stands below the repository and in no crate.
 struct Repository(PathBuf);
 
 impl Repository {
@@ -25,6 +25,7 @@ impl Repository {
         let repository = Repository(folder);
         repository.write("crates.txt", "low:\nhigh: low\n");
         for name in CRATES {
+            repository.write(&format!("crates/{name}_c/src/exports.txt"), name);
             for part in ["src/lib.txt", "specs/Spec.txt", "proofs/deep/Proof.txt"] {
                 repository.write(&format!("crates/{name}/{part}"), &format!("{name} {part}"));
             }
@@ -48,11 +49,13 @@ impl Repository {
         let script = format!(
             "#!/bin/sh\n\
              if [ \"$1\" = version ]; then echo '{version}'; exit; fi\n\
-             echo \"$2\" >> calls\n\
-             echo \"rt: $2 proved\"\n\
+             [ \"$*\" = lib ] || exit 2\n\
+             name=$(basename \"$PWD\" _c)\n\
+             echo \"$name\" >> ../../calls\n\
+             echo \"rt: $name proved\"\n\
              {more}\n\
-             mkdir -p target/staticlib\n\
-             cat crates/*/src/lib.txt > target/staticlib/lib$2.a\n"
+             mkdir -p out\n\
+             cat ../*/src/lib.txt > out/lib${{name}}_c.a\n"
         );
         // Written by another process: one that starts meanwhile would hold it open for writing.
         let path = self.path("rt");
@@ -152,6 +155,8 @@ fn any_change_of_what_decides_is_seen() {
     }
     repository.write("crates.txt", "low:\nhigh:\n");
     changed("crates.txt");
+    repository.write("crates/low_c/src/exports.txt", "other");
+    changed("a thin crate");
     repository.write("crates/high/proofs/More.txt", "");
     changed("a new file");
     let (lib, moved) = ("crates/high/src/lib.txt", "crates/high/src/moved.txt");
@@ -174,7 +179,7 @@ fn any_change_of_what_decides_is_seen() {
     changed("one file with the contents of two");
 
     let before = repository.sources();
-    for beside in ["must-fail/a.edit", "stdin", "stdout", "data/a"] {
+    for beside in ["must-fail/a.edit", "stdin", "stdout", "data/a", "out/a"] {
         repository.write(&format!("crates/low/{beside}"), "more");
     }
     assert_eq!(repository.sources(), before);
@@ -200,6 +205,27 @@ fn other_crates_have_other_sources() {
     assert_ne!(alone, repository.sources());
 }
 
+/// Cargo looks at these for changes: what `rt` writes is not among them.
+#[test]
+fn folders_that_decide() {
+    let repository = Repository::new("folders");
+    repository.get().unwrap();
+    let mut folders = repository.archives(|archives| archives.folders().unwrap());
+    folders.sort();
+    let expected = [
+        "high/proofs",
+        "high/specs",
+        "high/src",
+        "high_c/src",
+        "low/proofs",
+        "low/specs",
+        "low/src",
+        "low_c/src",
+    ];
+    let crates = repository.path("crates");
+    assert_eq!(folders, expected.map(|folder| crates.join(folder)));
+}
+
 #[test]
 fn proved_once() {
     let repository = Repository::new("once");
@@ -216,8 +242,10 @@ fn proved_once() {
     );
     assert_eq!(repository.proofs(), 2);
 
-    // `rt ci` removes target/. Nothing is shown when nothing is proved.
-    fs::remove_dir_all(repository.path("target")).unwrap();
+    // What `rt` writes into the crates may go. Nothing is shown when nothing is proved.
+    for name in CRATES {
+        fs::remove_dir_all(repository.path(&format!("crates/{name}_c/out"))).unwrap();
+    }
     let again = repository.archives(|archives| archives.get(&mut |line| panic!("{line}")));
     assert_eq!(again.unwrap(), made);
     assert_eq!(repository.proofs(), 2);
@@ -284,13 +312,13 @@ fn what_is_not_proved_is_not_kept() {
     let repository = Repository::new("not_proved");
     repository.rt(
         "kit 1",
-        "[ \"$2\" = low ] || { echo 'rt: high NOT PROVED' >&2; exit 1; }",
+        "[ \"$name\" = low ] || { echo 'rt: high NOT PROVED' >&2; exit 1; }",
     );
     let mut lines = Vec::new();
     let line = repository
         .archives(|archives| archives.get(&mut |line| lines.push(line.to_string())))
         .unwrap_err();
-    assert_eq!(line, "`rt staticlib high` failed, exit status: 1");
+    assert_eq!(line, "`rt lib` in crates/high_c failed, exit status: 1");
     assert_eq!(
         lines[1..],
         ["rt: low proved", "rt: high proved", "rt: high NOT PROVED"]
@@ -298,7 +326,7 @@ fn what_is_not_proved_is_not_kept() {
     assert!(!repository.path("kept").join(repository.sources()).exists());
 
     // A change while it is proved: the archive may be of either.
-    repository.rt("kit 1", "echo more >> crates/low/src/lib.txt");
+    repository.rt("kit 1", "echo more >> ../low/src/lib.txt");
     let line = "crates/ or crates.txt was changed while it was proved: build again";
     assert_eq!(repository.get().unwrap_err(), line);
     assert!(!repository.path("kept").join(repository.sources()).exists());

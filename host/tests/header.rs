@@ -168,6 +168,51 @@ fn every_name_is_used() {
     assert!(missing.is_empty(), "{PROGRAM} does not use {missing:?}");
 }
 
+/// The functions of a crate that are marked as exported, by file and name: what stands before the body, and the body.
+fn marked(name: &str) -> BTreeMap<(String, String), (String, String)> {
+    let mut marked = BTreeMap::new();
+    for entry in fs::read_dir(root().join("crates").join(name).join("src")).unwrap() {
+        let path = entry.unwrap().path();
+        let file = path.file_stem().unwrap().to_str().unwrap();
+        let source = fs::read_to_string(&path).unwrap();
+        for piece in source.split("#[unsafe(no_mangle)]\n").skip(1) {
+            let (head, behind) = piece.split_once("\n{\n").unwrap();
+            let (body, _) = behind.split_once("\n}\n").unwrap();
+            let (name, _) = names(head).next().unwrap();
+            marked.insert((file.into(), name), (head.into(), body.into()));
+        }
+    }
+    marked
+}
+
+/// A function is exported with the parameters and clauses of the library's, by one call that hands each parameter on in
+/// its place; and what the header declares is what is exported.
+#[test]
+fn every_export_is_the_librarys() {
+    let mut exported = BTreeSet::new();
+    for library in ["c_api", "c_summaries", "panel"] {
+        let (functions, exports) = (marked(library), marked(&format!("{library}_c")));
+        assert!(functions.keys().eq(exports.keys()), "{library}");
+        for ((file, name), (head, body)) in exports {
+            let (expected, _) = &functions[&(file.clone(), name.clone())];
+            assert_eq!(&head, expected);
+            let (_, parameters) = head.split_once('(').unwrap();
+            let (parameters, _) = parameters.split_once(')').unwrap();
+            let parameters = parameters.split(',').filter_map(|one| one.split_once(':'));
+            let parameters: Vec<&str> = parameters.map(|(name, _)| name.trim()).collect();
+            let module = match file.as_str() {
+                "lib" => library.to_string(),
+                _ => format!("{library}::{file}"),
+            };
+            let body: String = body.split_whitespace().collect();
+            let body = body.trim_end_matches(';').replace(",)", ")");
+            assert_eq!(body, format!("{module}::{name}({})", parameters.join(",")));
+            exported.insert(name);
+        }
+    }
+    assert_eq!(exported, declared());
+}
+
 /// The header is C++ too.
 #[test]
 fn a_program_in_cpp() {

@@ -1,5 +1,6 @@
 // The entries of the regulator's set-up panel: gain and phase crossover of readings in bytes. A reading has 24 bytes:
-// the frequency, the magnitude in decibels and the phase in degrees, each an f64, the least byte first.
+// the frequency, the magnitude in decibels and the phase in degrees, each an f64, the least byte first. `panel_c` exports
+// the entries.
 #![tactic(auto)]
 
 ghost use Rattle.std.specs.Prelude.{◌≡◌, ◌+◌, ◌*◌, ◌%◌, ◌≤◌, length};

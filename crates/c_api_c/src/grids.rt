@@ -1,0 +1,18 @@
+// The grids, written into lists that the host lends.
+ghost use Rattle.nyquist.specs.Frequency.{frequency_outcome, frequency_grid};
+ghost use Rattle.root_locus.specs.Gain.{gain_outcome, gain_grid};
+ghost use Rattle.c_api.specs.Places.{Filled};
+
+#[unsafe(no_mangle)]
+pub extern "C" fn bazintroa_fill_gain_grid(k_max: f64, n: usize, list: &mut [f64]) -> u32
+    ensures { Filled (gain_outcome k_max n list.old) (gain_grid k_max n list.old) result list.new }
+{
+    c_api::grids::bazintroa_fill_gain_grid(k_max, n, list)
+}
+
+#[unsafe(no_mangle)]
+pub extern "C" fn bazintroa_fill_frequency_grid(omega_max: f64, n: usize, list: &mut [f64]) -> u32
+    ensures { Filled (frequency_outcome omega_max n list.old) (frequency_grid omega_max n list.old) result list.new }
+{
+    c_api::grids::bazintroa_fill_frequency_grid(omega_max, n, list)
+}

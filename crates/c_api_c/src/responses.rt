@@ -1,0 +1,136 @@
+// The value of a transfer function and the four responses of a loop, at a frequency whose cosines and sines are lent.
+ghost use Rattle.transfer_fn.specs.Evaluation.{evaluation};
+ghost use Rattle.sensitivity.specs.Responses.{loop_gain, sensitivity, comp_sensitivity, control_sensitivity, response_by};
+ghost use Rattle.laws.specs.Outcome.{Answers};
+ghost use Rattle.places.specs.Coefficients.{transfer_fn};
+ghost use Rattle.c_api.specs.Places.{loop_shaping};
+
+#[unsafe(no_mangle)]
+pub extern "C" fn bazintroa_eval_tf_complex(
+    b: &[f64; 8],
+    a: &[f64; 8],
+    order: usize,
+    cosines: &[f64],
+    sines: &[f64],
+    out: &mut [f64; 2],
+) -> u32
+    ensures { Answers (evaluation (transfer_fn b.now a.now order) cosines.now sines.now) result out.old out.new }
+{
+    c_api::responses::bazintroa_eval_tf_complex(b, a, order, cosines, sines, out)
+}
+
+#[unsafe(no_mangle)]
+pub extern "C" fn bazintroa_loop_gain_at(
+    plant_b: &[f64; 8],
+    plant_a: &[f64; 8],
+    plant_order: usize,
+    controller_b: &[f64; 8],
+    controller_a: &[f64; 8],
+    controller_order: usize,
+    cosines: &[f64],
+    sines: &[f64],
+    out: &mut [f64; 2],
+) -> u32
+    ensures { Answers (response_by loop_gain (loop_shaping (transfer_fn plant_b.now plant_a.now plant_order)
+        (transfer_fn controller_b.now controller_a.now controller_order))
+        cosines.now sines.now) result out.old out.new }
+{
+    c_api::responses::bazintroa_loop_gain_at(
+        plant_b,
+        plant_a,
+        plant_order,
+        controller_b,
+        controller_a,
+        controller_order,
+        cosines,
+        sines,
+        out,
+    )
+}
+
+#[unsafe(no_mangle)]
+pub extern "C" fn bazintroa_sensitivity_at(
+    plant_b: &[f64; 8],
+    plant_a: &[f64; 8],
+    plant_order: usize,
+    controller_b: &[f64; 8],
+    controller_a: &[f64; 8],
+    controller_order: usize,
+    cosines: &[f64],
+    sines: &[f64],
+    out: &mut [f64; 2],
+) -> u32
+    ensures { Answers (response_by sensitivity (loop_shaping (transfer_fn plant_b.now plant_a.now plant_order)
+        (transfer_fn controller_b.now controller_a.now controller_order))
+        cosines.now sines.now) result out.old out.new }
+{
+    c_api::responses::bazintroa_sensitivity_at(
+        plant_b,
+        plant_a,
+        plant_order,
+        controller_b,
+        controller_a,
+        controller_order,
+        cosines,
+        sines,
+        out,
+    )
+}
+
+#[unsafe(no_mangle)]
+pub extern "C" fn bazintroa_comp_sensitivity_at(
+    plant_b: &[f64; 8],
+    plant_a: &[f64; 8],
+    plant_order: usize,
+    controller_b: &[f64; 8],
+    controller_a: &[f64; 8],
+    controller_order: usize,
+    cosines: &[f64],
+    sines: &[f64],
+    out: &mut [f64; 2],
+) -> u32
+    ensures { Answers (response_by comp_sensitivity (loop_shaping (transfer_fn plant_b.now plant_a.now plant_order)
+        (transfer_fn controller_b.now controller_a.now controller_order))
+        cosines.now sines.now) result out.old out.new }
+{
+    c_api::responses::bazintroa_comp_sensitivity_at(
+        plant_b,
+        plant_a,
+        plant_order,
+        controller_b,
+        controller_a,
+        controller_order,
+        cosines,
+        sines,
+        out,
+    )
+}
+
+#[unsafe(no_mangle)]
+pub extern "C" fn bazintroa_control_sensitivity_at(
+    plant_b: &[f64; 8],
+    plant_a: &[f64; 8],
+    plant_order: usize,
+    controller_b: &[f64; 8],
+    controller_a: &[f64; 8],
+    controller_order: usize,
+    cosines: &[f64],
+    sines: &[f64],
+    out: &mut [f64; 2],
+) -> u32
+    ensures { Answers (response_by control_sensitivity (loop_shaping (transfer_fn plant_b.now plant_a.now plant_order)
+        (transfer_fn controller_b.now controller_a.now controller_order))
+        cosines.now sines.now) result out.old out.new }
+{
+    c_api::responses::bazintroa_control_sensitivity_at(
+        plant_b,
+        plant_a,
+        plant_order,
+        controller_b,
+        controller_a,
+        controller_order,
+        cosines,
+        sines,
+        out,
+    )
+}

@@ -1,0 +1,7 @@
+// The functions of `c_summaries` as hosts call them: each export is one call of its namesake there, with the same
+// clauses. include/bazintroa.h declares them.
+#![tactic(auto)]
+
+mod bode_summary;
+mod curve_summary;
+mod sensitivity_summary;
