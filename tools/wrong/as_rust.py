@@ -95,14 +95,14 @@ def build(root, out):
     return None if ran.returncode == 0 else ran.stderr
 
 
-def outcome(root, name, words):
+def outcome(root, name, words, seconds=60):
     """What a program that is started by these words writes that is not its 'stdout': nothing, its first such line, or
     that it did not end."""
     crate = root / "crates" / name
     given = crate / "stdin"
     try:
         with (given if given.exists() else pathlib.Path("/dev/null")).open("rb") as text:
-            ran = subprocess.run(words, stdin=text, capture_output=True, text=True, timeout=60, cwd=crate)
+            ran = subprocess.run(words, stdin=text, capture_output=True, text=True, timeout=seconds, cwd=crate)
     except subprocess.TimeoutExpired:
         return "did not end"
     wanted, wrote = (crate / "stdout").read_text().splitlines(), ran.stdout.splitlines()
