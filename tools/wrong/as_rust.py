@@ -1,36 +1,31 @@
 """The repository's programs as one Rust program, to run many wrong versions quickly: what `rt try` does, in a tenth of the
-time. Contracts and ghost lines are taken out; what is left is Rust, but for the kit's own crates, which are written here."""
+time. Contracts, ghost lines and tactics are taken out; what is left is Rust, but for what `main` is handed and the
+macros that print, which are written here."""
 import pathlib
 import re
 import subprocess
 
 KIT = '''#![allow(warnings)]
+#[derive(Clone, Copy)]
+pub struct HostRuntime;
+impl HostRuntime {
+    pub fn stdin(self) -> std::io::Stdin {
+        std::io::stdin()
+    }
+}
 mod io {
-    use std::io::{BufReader, Read, Stdin, Write};
-    thread_local! {
-        static IN: std::cell::RefCell<BufReader<Stdin>> = std::cell::RefCell::new(BufReader::new(std::io::stdin()));
+    pub use std::io::*;
+    pub trait Print {}
+    impl Print for crate::HostRuntime {}
+    pub fn writer(_rt: &impl Print) -> Stdout {
+        stdout()
     }
-    pub fn read_full(_file: u32, b: &mut [u8]) -> usize {
-        IN.with(|file| {
-            let mut n = 0;
-            while n < b.len() {
-                match file.borrow_mut().read(&mut b[n..]) {
-                    Ok(0) | Err(_) => break,
-                    Ok(k) => n += k,
-                }
-            }
-            n
-        })
-    }
-    pub fn write_all(_file: u32, b: &[u8]) {
-        std::io::stdout().write_all(b).unwrap();
-    }
-    pub fn print_decimal(_file: u32, n: u64) {
-        write_all(1, n.to_string().as_bytes());
-    }
-    pub fn print_hex(_file: u32, n: u64, digits: u32) {
-        write_all(1, format!("{n:0width$x}", width = digits as usize).as_bytes());
-    }
+}
+macro_rules! print {
+    ($rt:ident; $($text:tt)*) => {{ std::io::Write::write_fmt(&mut std::io::stdout(), format_args!($($text)*)) }};
+}
+macro_rules! println {
+    ($rt:ident; $text:literal) => { print!($rt; "{}\\n", format_args!($text)) };
 }
 '''
 
@@ -46,21 +41,25 @@ def programs(root):
 
 
 def without_contracts(text):
-    kept, inside = [], False
+    """The lines of a file that are no clause, no ghost item, no tactic and no attribute that Rust lacks."""
+    kept, depth, inside = [], 0, False
     for line in text.split("\n"):
-        inside = inside or bool(re.match(r"\s*(requires|ensures)\b", line))
-        if inside:
-            inside = not line.rstrip().endswith("⌝ }")
-        elif not line.startswith("ghost use"):
-            kept.append(line)
+        if not inside:
+            if not re.match(r"\s*((requires|ensures)\b|(pub )?ghost |#!?\[tactic\b)|#\[unsafe\(no_mangle\)\]$|\s*#\[derive\(Drop\)\]$", line):
+                kept.append(line)
+                continue
+            depth = 0
+        # to the end of what is opened; a ghost item ends with ;
+        depth += sum(line.count(sign) for sign in "{([") - sum(line.count(sign) for sign in "})]")
+        inside = depth > 0
     return "\n".join(kept)
 
 
 def as_rust(text, crates):
-    text = without_contracts(text).replace("#[no_mangle]\n", "")
-    text = re.sub(r"^((?:#\[repr\(C\)\]\n)?(?:pub )?(?:struct|enum) )", r"#[derive(Clone, Copy)]\n\1", text, flags=re.M)
-    text = text.replace("std::num::wrapping_add_u64(", "u64::wrapping_add(")
+    text = without_contracts(text)
+    text = re.sub(r"(#\[derive\([^)]*), Drop\b", r"\1", text)
     text = text.replace("std::num::nearest_u64_to_f64(", "(|n: u64| n as f64)(")
+    text = re.sub(r"\bstd::io\b", "crate::io", text).replace("HostRuntime", "crate::HostRuntime")
     return re.sub(rf"(?<![\w:.])({'|'.join(crates)})::", r"crate::\1::", text)
 
 
@@ -73,7 +72,7 @@ def module(root, name, crates):
 
     text = re.sub(r"^(?:pub )?mod (\w+);", inner, as_rust(file.read_text(), crates), flags=re.M)
     text = re.sub(r"^pub use (?!crate)", "pub use self::", text, flags=re.M)
-    return f"mod {name} {{\n{text.replace('fn main()', 'pub fn main()')}\n}}\n"
+    return f"mod {name} {{\n{text.replace('fn main(', 'pub fn main(')}\n}}\n"
 
 
 def build(root, out):
@@ -82,7 +81,7 @@ def build(root, out):
     mains = programs(root)
     reached = {lib for name in mains for lib in below[name]} & set(below)
     crates = [name for name in below if name in reached or name in mains]
-    arms = "".join(f'"{name}" => {name}::main(),' for name in mains)
+    arms = "".join(f'"{name}" => {name}::main(HostRuntime).unwrap(),' for name in mains)
     start = f'''fn main() {{
     let name = std::env::args().nth(1).unwrap();
     let all = move || match name.as_str() {{ {arms} _ => panic!() }};
@@ -90,19 +89,20 @@ def build(root, out):
 }}
 '''
     source = pathlib.Path(str(out) + ".rs")
-    source.write_text(KIT + "".join(module(root, name, crates + ["io"]) for name in crates) + start)
+    source.write_text(KIT + "".join(module(root, name, crates) for name in crates) + start)
     words = ["rustc", "--edition", "2021", "-C", "opt-level=1", "-C", "overflow-checks=off", "-o", str(out), str(source)]
     ran = subprocess.run(words, capture_output=True, text=True)
     return None if ran.returncode == 0 else ran.stderr
 
 
-def differs(root, out, name):
-    """What a program writes that is not its 'stdout': nothing, its first such line, or that it did not end."""
+def outcome(root, name, words, seconds=60):
+    """What a program that is started by these words writes that is not its 'stdout': nothing, its first such line, or
+    that it did not end."""
     crate = root / "crates" / name
     given = crate / "stdin"
     try:
         with (given if given.exists() else pathlib.Path("/dev/null")).open("rb") as text:
-            ran = subprocess.run([str(out), name], stdin=text, capture_output=True, text=True, timeout=60)
+            ran = subprocess.run(words, stdin=text, capture_output=True, text=True, timeout=seconds, cwd=crate)
     except subprocess.TimeoutExpired:
         return "did not end"
     wanted, wrote = (crate / "stdout").read_text().splitlines(), ran.stdout.splitlines()
@@ -111,3 +111,8 @@ def differs(root, out, name):
     if wanted == wrote:
         return None
     return next((line for line in wrote if line not in wanted), "wrote less")
+
+
+def differs(root, out, name):
+    """Likewise what the compiled program writes for one of them."""
+    return outcome(root, name, [str(out), name])

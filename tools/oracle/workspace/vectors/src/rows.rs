@@ -9,19 +9,18 @@ use crate::{complex, grids, locus, scans, searches, sensitivity, start_table, su
 const HEAD: &str = "\
 -- Cases that the Rust was asked about, with its answers; a float is given by its bits. Refusals that the Rust does not have are document 01's.
 -- Written by tools/oracle/run, which can also compare it with what it would write now. Definitions only.
-use Prim.Native.Nat.{ℕ}
-use mathlib.Core.List.{List, [], _∷_, _++_, map}
-use lib.ListN.{replicate}
-use lib.Ieee.{Float, binary64, ofBits}
-use Rattle·laws.specs.Outcome.{Outcome, found, none, refused}
-use Rattle·sweep.specs.Answer.{not_kept}
-use Rattle·sweep.specs.Runs.{start, feed, join}
-use Rattle·transfer_fn.specs.declared.TransferFn.{TransferFn}
-use Rattle·sensitivity.specs.declared.LoopShaping.{LoopShaping}
-use Rattle·worked_cases.specs.Cases.{Bode, Sensitivity, Curve, sqrt, multiply, divide, reciprocal, magnitude, eval_tf_complex, loop_gain_at, sensitivity_at, comp_sensitivity_at, control_sensitivity_at, start_at, locus_point, locus_ending, stability_region, gain_crossover, phase_crossover, gain_margin, phase_margin, sensitivity_crossover, bandwidth, distance_to_critical, gain_grid, frequency_grid, gain_of_summary, phase_of_summary, crossover_of_summary, bandwidth_of_summary, approach_of_summary, Row, _gives_}
+use Rattle.std.specs.Prelude.{ℕ, List, [], ◌∷◌, ◌++◌, map, replicate, Float}
+use Rattle.std.specs.Float.{binary64}
+use Rattle.std.specs.Float.Ieee.{of_bits}
+use Rattle.laws.specs.Outcome.{Outcome, found, none, refused}
+use Rattle.sweep.specs.Answer.{not_kept}
+use Rattle.sweep.specs.Runs.{start, feed, join}
+use Rattle.transfer_fn.specs.declared.TransferFn.{TransferFn}
+use Rattle.sensitivity.specs.declared.LoopShaping.{LoopShaping}
+use Rattle.worked_cases.specs.Cases.{Bode, Sensitivity, Curve, sqrt, multiply, divide, reciprocal, magnitude, eval_tf_complex, loop_gain_at, sensitivity_at, comp_sensitivity_at, control_sensitivity_at, start_at, locus_point, locus_ending, stability_region, gain_crossover, phase_crossover, gain_margin, phase_margin, sensitivity_crossover, bandwidth, distance_to_critical, gain_grid, frequency_grid, gain_of_summary, phase_of_summary, crossover_of_summary, bandwidth_of_summary, approach_of_summary, Row, ◌gives◌}
 
 abbrev bits : ℕ → Float
-bits n = ofBits binary64 n
+bits n = of_bits binary64 n
 
 abbrev floats : List ℕ → List Float
 floats l = map bits l
@@ -116,7 +115,7 @@ pub fn file() -> String {
             rows,
         } = table;
         text += &format!("\n-- ---- {what}\n\n{names}");
-        text += &format!("unfoldable pub {name} : List Row\nunfolding ofBits\n{name} =\n");
+        text += &format!("unfoldable pub {name} : List Row\nunfolding of_bits\n{name} =\n");
         text += &format!("{rows}    []\n");
     }
     let names: Vec<_> = rows.tables.iter().map(|table| table.name).collect();

@@ -87,7 +87,7 @@ pub fn rows(rows: &mut Rows, random: &mut Random) {
         let cosines = rows.name("cosines", "List Float", &cosines);
         let sines = rows.name("sines", "List Float", &sines);
         let questions = [
-            format!("eval_tf_complex ({shaping} .plant)"),
+            format!("eval_tf_complex {shaping}.plant"),
             format!("loop_gain_at {shaping}"),
             format!("sensitivity_at {shaping}"),
             format!("comp_sensitivity_at {shaping}"),
