@@ -33,7 +33,7 @@ macro_rules! println {
 def built_on(root):
     """Of each crate, the crates that it is built on."""
     lines = (root / "crates.txt").read_text().splitlines()
-    return {line.split(":")[0]: line.split(":")[1].split() for line in lines if ":" in line and not line.startswith("#")}
+    return {line.split(":")[0].split()[0]: line.split(":")[1].split() for line in lines if ":" in line and not line.startswith("#")}
 
 
 def programs(root):
