@@ -9,11 +9,11 @@ abbrev pub placed_by : {A : Type 0} → Point → A → A → A
 placed_by p new old = cond (eqb p.number 0) new old
 
 -- A call whose point is p returned r. Of each place it says what was there before and after; the ending is a kind and its value.
-pub record PointAnswers (p : Point) (r : ℕ) (gain gain-after : Float) (poles poles-after : List Float) (count count-after : ℕ)
-    (kind kind-after : ℕ) (value value_after : Float) : Type 0 where
+pub record PointAnswers (p : Point) (r : ℕ) (gain gain_after : Float) (poles poles_after : List Float) (count count_after : ℕ)
+    (kind kind_after : ℕ) (value value_after : Float) : Type 0 where
   pub number_is : r ≡ p.number
-  pub gain_is : gain-after ≡ placed_by p p.gain gain
-  pub poles_are : poles-after ≡ placed_by p (parts_of p.poles) poles
-  pub count_is : count-after ≡ placed_by p p.count count
-  pub kind_is : kind-after ≡ placed_by p (ending_number p.ending) kind
+  pub gain_is : gain_after ≡ placed_by p p.gain gain
+  pub poles_are : poles_after ≡ placed_by p (parts_of p.poles) poles
+  pub count_is : count_after ≡ placed_by p p.count count
+  pub kind_is : kind_after ≡ placed_by p (ending_number p.ending) kind
   pub value_is : value_after ≡ placed_by p (ending_value p.ending) value

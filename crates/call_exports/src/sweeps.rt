@@ -1,4 +1,5 @@
-// Grids, and the scans over lists. The entry on a slice of readings is not called.
+// Grids, and the scans over lists. The entry on a slice of readings is not called: a line more would change what the
+// program prints.
 use super::lines;
 use c_api::{grids, scans};
 use std::io;

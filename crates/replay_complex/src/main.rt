@@ -79,7 +79,6 @@ fn run(input: &mut Input) -> Tally {
 fn main(rt: HostRuntime) -> io::Result<()> {
     let mut input = Input::new(rt.stdin());
     let tally = run(&mut input);
-    input.end()?;
     tally.line(&rt, 1, b"abs")?;
     tally.line(&rt, 2, b"sqrt")?;
     tally.line(&rt, 3, b"new")?;
@@ -92,5 +91,6 @@ fn main(rt: HostRuntime) -> io::Result<()> {
     tally.line(&rt, 10, b"reciprocal")?;
     tally.line(&rt, 11, b"divide")?;
     tally.line(&rt, 12, b"EPSILON")?;
-    tally.line(&rt, 0, b"no question")
+    tally.line(&rt, 0, b"no question")?;
+    input.end()
 }

@@ -106,8 +106,8 @@ fn run(input: &mut Input) -> Tally {
 fn main(rt: HostRuntime) -> io::Result<()> {
     let mut input = Input::new(rt.stdin());
     let tally = run(&mut input);
-    input.end()?;
     tally.line(&rt, 1, b"fill_gain_grid")?;
     tally.line(&rt, 2, b"fill_frequency_grid")?;
-    tally.line(&rt, 0, b"no question")
+    tally.line(&rt, 0, b"no question")?;
+    input.end()
 }

@@ -114,8 +114,8 @@ fn run(input: &mut Input) -> Tally {
 fn main(rt: HostRuntime) -> io::Result<()> {
     let mut input = Input::new(rt.stdin());
     let tally = run(&mut input);
-    input.end()?;
     tally.line(&rt, 1, b"locus_point")?;
     tally.line(&rt, 2, b"stability_region")?;
-    tally.line(&rt, 0, b"no question")
+    tally.line(&rt, 0, b"no question")?;
+    input.end()
 }

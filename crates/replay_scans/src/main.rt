@@ -158,7 +158,6 @@ fn run(input: &mut Input) -> Tally {
 fn main(rt: HostRuntime) -> io::Result<()> {
     let mut input = Input::new(rt.stdin());
     let tally = run(&mut input);
-    input.end()?;
     tally.line(&rt, 1, b"gain_crossover_frequency")?;
     tally.line(&rt, 2, b"phase_crossover_frequency")?;
     tally.line(&rt, 3, b"gain_margin")?;
@@ -167,5 +166,6 @@ fn main(rt: HostRuntime) -> io::Result<()> {
     tally.line(&rt, 5, b"sensitivity_crossover")?;
     tally.line(&rt, 6, b"bandwidth")?;
     tally.line(&rt, 7, b"distance_to_critical")?;
-    tally.line(&rt, 0, b"no question")
+    tally.line(&rt, 0, b"no question")?;
+    input.end()
 }

@@ -84,10 +84,10 @@ fn run(input: &mut Input) -> Tally {
 fn main(rt: HostRuntime) -> io::Result<()> {
     let mut input = Input::new(rt.stdin());
     let tally = run(&mut input);
-    input.end()?;
     tally.line(&rt, 1, b"eval_tf_complex")?;
     tally.line(&rt, 2, b"loop_gain_at")?;
     tally.line(&rt, 3, b"sensitivity_at")?;
     tally.line(&rt, 4, b"comp_sensitivity_at")?;
-    tally.line(&rt, 5, b"control_sensitivity_at")
+    tally.line(&rt, 5, b"control_sensitivity_at")?;
+    input.end()
 }

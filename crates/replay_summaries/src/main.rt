@@ -321,7 +321,6 @@ fn run(input: &mut Input) -> Tally {
 fn main(rt: HostRuntime) -> io::Result<()> {
     let mut input = Input::new(rt.stdin());
     let tally = run(&mut input);
-    input.end()?;
     tally.line(&rt, 1, b"BodeSummary feed")?;
     tally.line(&rt, 2, b"BodeSummary gain_crossover")?;
     tally.line(&rt, 3, b"BodeSummary phase_crossover")?;
@@ -330,5 +329,6 @@ fn main(rt: HostRuntime) -> io::Result<()> {
     tally.line(&rt, 6, b"SensitivitySummary bandwidth")?;
     tally.line(&rt, 7, b"CurveSummary feed")?;
     tally.line(&rt, 8, b"CurveSummary closest_approach")?;
-    tally.line(&rt, 0, b"no question")
+    tally.line(&rt, 0, b"no question")?;
+    input.end()
 }
