@@ -1,3 +1,4 @@
+mod Above
 pub mod Sides
 pub mod Decoded
 pub mod Scanning

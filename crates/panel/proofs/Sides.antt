@@ -1,7 +1,7 @@
 -- The side on which a value lies, told by its bit pattern: two values on one side do not cross. Assumes nothing.
 use Prim.Native.Nat.{ℕ, zero, suc, ◌+◌, ◌*◌, ◌/◌, ◌%◌, ◌^◌, ◌<◌}
 use mathlib.Core.Path.{◌≡◌, refl, sym, ◌∙◌, subst}
-use mathlib.Core.Bool.{Bool, true, false, true≢false, beq, ◌&&◌, cond}
+use mathlib.Core.Bool.{Bool, true, false, true≢false, beq, cond}
 use native.Mathlib.Nat.{mul-pos}
 use native.Mathlib.Omega.{arith}
 use borrow.Author.Tests.{not-true, ltb-true, lt-leb, le-leb}
@@ -21,12 +21,9 @@ use Rattle.bode.specs.declared.Crossover.TheVariants.{Gain, Phase}
 use Rattle.panel.specs.Scanning.{lies_on, side_of}
 use Rattle.panel.specs.declared.Side.{Side}
 use Rattle.panel.specs.declared.Side.TheVariants.{Above, Below, Neither}
+use Rattle.panel.proofs.Above.{above_told}
 
 -- ---- of 0 dB
-
-both_true : (p q : Bool) → (p && q) ≡ true → (p ≡ true) × (q ≡ true)
-both_true true q h = (refl, h)
-both_true false q h = absurd (true≢false (sym h))
 
 -- a value of a size above 0
 value_beside : (x : Float) (s : Bool) (a c : ℕ) → HasValue x s a c → 0 < a → T (beside s x)
@@ -52,10 +49,8 @@ pattern_beside n h = rw (of_bits_is n) (fields_beside (leb (2 ^ 63) n) (n % 2 ^ 
 
 above_beside : (n : ℕ) → lies_on Gain Above n ≡ true → T (beside false (of_bits binary64 n))
 above_beside n h =
-    let told = both_true (ltb 0 n) (ltb n (2 ^ 63)) h in
-    let some = ltb-true 0 n told.0 in
-    let low = ltb-true n (2 ^ 63) told.1 in
-    rw (lt-leb (2 ^ 63) n low) at (pattern_beside n (omega arith))
+    let told = above_told n h in
+    rw (lt-leb (2 ^ 63) n told.1) at (pattern_beside n (omega arith))
 
 below_beside : (n : ℕ) → n < 2 ^ 64 → lies_on Gain Below n ≡ true → T (beside true (of_bits binary64 n))
 below_beside n fits h =
