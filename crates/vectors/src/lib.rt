@@ -1,9 +1,9 @@
 // Support for the replay programs: the oracle's vectors are read from standard input, a word of eight bytes at a
-// time, and answers are counted. No contract can speak of what is read or written: a function that reads a list
-// promises its length, and that the places behind it stay.
+// time, and answers are counted. No contract can speak of what is read or written: a function that reads promises what
+// it does after a read that failed, and one that reads a list its length, and that the places behind it stay.
 #![tactic(auto)]
 
-ghost use Rattle.std.specs.Prelude.{◌≡◌, ◌<◌};
+ghost use Rattle.std.specs.Prelude.{◌≡◌, ◌<◌, false, IsSome, IsTrue, MatchOption};
 ghost use Rattle.vectors.specs.Made.{Made};
 ghost use Rattle.vectors.specs.Tally.{unmarked_of, known_of, place_of, none_asked, begun_with, counted_in};
 
@@ -14,19 +14,24 @@ use std::io::{ErrorKind, Print, Read, Stdin, Write};
 #[derive(Drop)]
 pub struct Input {
     stdin: Stdin,
-    failed: Option<io::Error>,
+    pub failed: Option<io::Error>,
 }
 
 impl Input {
-    pub fn new(stdin: Stdin) -> Self {
+    pub fn new(stdin: Stdin) -> Self
+        ensures { result.failed ≡ None }
+    {
         Self {
             stdin,
             failed: None,
         }
     }
 
-    // Fills these bytes, and answers whether the input has as many.
-    pub fn fill(&mut self, bytes: &mut [u8]) -> bool {
+    // Fills these bytes, and answers whether the input has as many. After a read that failed nothing is read.
+    pub fn fill(&mut self, bytes: &mut [u8]) -> bool
+        ensures ended { IsSome self.old.failed → (result ≡ false) × (self.new ≡ self.old) × (bytes.new ≡ bytes.old) }
+        ensures filled { IsTrue result → self.new.failed ≡ None }
+    {
         if self.failed.is_some() {
             return false;
         }
@@ -42,7 +47,9 @@ impl Input {
     }
 
     // The error of a read that failed, if one did.
-    pub fn end(self) -> io::Result<()> {
+    pub fn end(self) -> io::Result<()>
+        ensures { MatchOption self.failed (result ≡ Ok tt) (λ e. result ≡ Err e) }
+    {
         match self.failed {
             Some(e) => Err(e),
             None => Ok(()),
@@ -56,7 +63,9 @@ pub enum Word {
     End,
 }
 
-pub fn next(input: &mut Input) -> Word {
+pub fn next(input: &mut Input) -> Word
+    ensures { IsSome input.old.failed → (result ≡ Word.End) × (input.new ≡ input.old) }
+{
     let mut bytes = [0u8; 8];
     if !input.fill(&mut bytes) {
         return Word::End;
@@ -65,7 +74,9 @@ pub fn next(input: &mut Input) -> Word {
 }
 
 // The next word, and 0 past the end.
-pub fn number(input: &mut Input) -> u64 {
+pub fn number(input: &mut Input) -> u64
+    ensures { IsSome input.old.failed → (result ≡ 0) × (input.new ≡ input.old) }
+{
     match next(input) {
         Word::Is(n) => n,
         Word::End => 0,
