@@ -1,13 +1,11 @@
 -- Complex arithmetic on binary64, each operation rounded, in the Rust's order. Definitions only.
-use Rattle.std.specs.Prelude.{Bool, cond, List, [], ◌∷◌, Float}
+use Rattle.std.specs.Prelude.{Bool, cond, List, [], ◌∷◌, Option, Float}
 use Rattle.std.specs.Float.{binary64}
 use Rattle.std.specs.Float.Ieee.{add, sub, mul, div, neg, lt}
-use Rattle.laws.specs.Outcome.{Outcome, found, none}
+use Rattle.laws.specs.Outcome.{Outcome, found, none, option_outcome}
 use Rattle.scalar.specs.Scalar.{f0, eps}
 use Rattle.scalar.specs.Sqrt.{sqrt_of}
 use Rattle.complex.specs.declared.Complex.{Complex}
-use Rattle.complex.specs.declared.Quotient.{Quotient}
-use Rattle.complex.specs.declared.Quotient.TheVariants.{Value, Nothing}
 
 unfoldable pub new_of : Float → Float → Complex
 new_of x y = record { re = x; im = y }
@@ -58,9 +56,8 @@ abbrev pub values_of : Complex → List Float
 values_of z = z.re ∷ z.im ∷ []
 
 -- 0 with real and imaginary part; 100 for none
-unfoldable pub outcome_of : Quotient → Outcome
-outcome_of (Value z) = found (values_of z)
-outcome_of Nothing = none
+unfoldable pub outcome_of : Option Complex → Outcome
+outcome_of q = option_outcome (λ z. found (values_of z)) q
 
 -- none where z's squared magnitude is below eps
 unfoldable pub reciprocal_of : Complex → Outcome

@@ -10,13 +10,7 @@ pub struct Complex {
     pub im: f64,
 }
 
-// A quotient, or none where the divisor's squared magnitude is below epsilon.
-#[derive(Clone, Copy)]
-pub enum Quotient {
-    Value(Complex),
-    Nothing,
-}
-
+#[tactic(auto, unfolding(crate::specs::Complex::new_of, crate::specs::Complex::from_real, crate::specs::Complex::product, crate::specs::Complex::sum, crate::specs::Complex::difference, crate::specs::Complex::magnitude_sq, crate::specs::Complex::magnitude_of, crate::specs::Complex::small, crate::specs::Complex::inverse, crate::specs::Complex::ratio, crate::specs::Complex::outcome_of, crate::specs::Complex::reciprocal_of, crate::specs::Complex::quotient), using(crate::proofs::Quotients::or_zero_is))]
 impl Complex {
     pub fn new(re: f64, im: f64) -> Self
         ensures { result ≡ new_of re im }
@@ -69,27 +63,29 @@ impl Complex {
         self.re * self.re + self.im * self.im
     }
 
-    pub fn reciprocal(self) -> Quotient
+    // None where the squared magnitude is below epsilon.
+    pub fn reciprocal(self) -> Option<Complex>
         ensures { outcome_of result ≡ reciprocal_of self }
     {
         let mag_sq = self.magnitude_sq();
         if mag_sq < scalar::EPSILON {
-            return Quotient::Nothing;
+            return None;
         }
-        Quotient::Value(Complex {
+        Some(Complex {
             re: self.re / mag_sq,
             im: -self.im / mag_sq,
         })
     }
 
-    pub fn divide(self, other: Complex) -> Quotient
+    // None where the divisor's squared magnitude is below epsilon.
+    pub fn divide(self, other: Complex) -> Option<Complex>
         ensures { outcome_of result ≡ quotient self other }
     {
         let denom = other.magnitude_sq();
         if denom < scalar::EPSILON {
-            return Quotient::Nothing;
+            return None;
         }
-        Quotient::Value(Complex {
+        Some(Complex {
             re: (self.re * other.re + self.im * other.im) / denom,
             im: (self.im * other.re - self.re * other.im) / denom,
         })
@@ -99,9 +95,6 @@ impl Complex {
     pub fn divide_or_zero(self, other: Complex) -> Self
         ensures { result ≡ quotient_or_zero self other }
     {
-        match self.divide(other) {
-            Quotient::Value(q) => q,
-            Quotient::Nothing => Complex::from_real(0.0),
-        }
+        self.divide(other).unwrap_or(Complex::from_real(0.0))
     }
 }

@@ -7,7 +7,8 @@ use native.Mathlib.Omega.{arith}
 use borrow.Author.Tests.{eq-eqb, ne_eqb, eqb-true}
 use lib.Dec.{eqb}
 use lib.Ieee.{Float}
-use Rattle.laws.specs.Outcome.{Outcome, found, refused, when, answered}
+use Rattle.std.specs.Prelude.{Option, Some, None, Result, Ok, Err}
+use Rattle.laws.specs.Outcome.{Outcome, found, none, refused, option_outcome, result_outcome, when, answered}
 
 pub answered_found : {n : ℕ} (values : List Float) → n ≡ 0 → answered n values ≡ found values
 unfolding answered
@@ -28,6 +29,23 @@ found_values h = ap (λ (o : Outcome). o.values) h
 
 pub apart : {o p : Outcome} → o ≡ p → o.number < p.number → ⊥
 apart {o} {p} h l = let e : o.number ≡ p.number = ap (λ (o : Outcome). o.number) h in omega arith
+
+-- An option is known by its outcome, where its value is and is not 100.
+module _ {A : Type 0} (f : A → Outcome) (known : (x y : A) → f x ≡ f y → x ≡ y) (some : (x : A) → (f x).number ≡ 100 → ⊥) where
+  pub option_known : (p q : Option A) → option_outcome f p ≡ option_outcome f q → p ≡ q
+  option_known (Some x) (Some y) h = ap Some (known x y h)
+  option_known (Some x) None h = absurd (some x (ap (λ (o : Outcome). o.number) h))
+  option_known None (Some y) h = absurd (some y (ap (λ (o : Outcome). o.number) (sym h)))
+  option_known None None h = refl
+
+-- A result is known by its outcome, where its value and its refusal are and have no number in common.
+module _ {A E : Type 0} (number : E → ℕ) (number-known : (d e : E) → number d ≡ number e → d ≡ e) (f : A → Outcome) (known : (x y : A) → f x ≡ f y → x ≡ y)
+    (some : (x : A) (e : E) → (f x).number ≡ number e → ⊥) where
+  pub result_known : (p q : Result A E) → result_outcome number f p ≡ result_outcome number f q → p ≡ q
+  result_known (Ok x) (Ok y) h = ap Ok (known x y h)
+  result_known (Ok x) (Err e) h = absurd (some x e (ap (λ (o : Outcome). o.number) h))
+  result_known (Err e) (Ok y) h = absurd (some y e (ap (λ (o : Outcome). o.number) (sym h)))
+  result_known (Err d) (Err e) h = ap Err (number-known d e (ap (λ (o : Outcome). o.number) h))
 
 -- what an answered call's outcome says of its conditions
 pub passed_from : {n : ℕ} {a b : List Float} → found a ≡ answered n b → (n ≡ 0) × (a ≡ b)

@@ -1,6 +1,6 @@
 -- What a call comes to, in the numbers of document 01: the form in which every public promise about an enum is stated.
 -- 0 is a result, with its values. Every other number has no value: 100 is "none", 101 "not kept", and the others are refusals.
-use Rattle.std.specs.Prelude.{ℕ, ◌≡◌, Bool, cond, List, [], ◌∷◌, eqb, Float}
+use Rattle.std.specs.Prelude.{ℕ, ◌≡◌, Bool, cond, List, [], ◌∷◌, Option, Some, None, Result, Ok, Err, eqb, Float}
 
 pub record Outcome : Type 0 where
   pub number : ℕ
@@ -14,6 +14,16 @@ none = record { number = 100; values = [] }
 
 abbrev pub refused : ℕ → Outcome
 refused n = record { number = n; values = [] }
+
+-- the outcome of an option, whose value comes to f: 100 where there is none
+abbrev pub option_outcome : {A : Type 0} → (A → Outcome) → Option A → Outcome
+option_outcome f (Some x) = f x
+option_outcome f None = none
+
+-- the outcome of a result, whose value comes to f: the refusal's number where there is none
+abbrev pub result_outcome : {A E : Type 0} → (E → ℕ) → (A → Outcome) → Result A E → Outcome
+result_outcome number f (Ok x) = f x
+result_outcome number f (Err e) = refused (number e)
 
 -- Conditions in the order in which they are tried: the number of the first that holds, and 0 where none does.
 -- Written `when test₁ n₁ (when test₂ n₂ .. 0)`.
