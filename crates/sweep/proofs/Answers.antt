@@ -1,117 +1,92 @@
 -- An answer is known by its outcome, and a scan's outcome by its conditions. Assumes nothing.
-use Prim.Native.Nat.{ℕ}
+use Prim.Native.Nat.{ℕ, ◌<◌}
 use mathlib.Core.Path.{◌≡◌, refl, sym, ap, ◌∙◌}
 use mathlib.Core.List.{List, [], ◌∷◌}
 use native.Mathlib.Omega.{arith}
 use borrow.Author.Tests.{ne_eqb}
 use lib.Ieee.{Float}
+use Rattle.std.specs.Prelude.{Option, Some, None, Result, Ok, Err}
 use Rattle.laws.specs.Loops.{filled}
-use Rattle.laws.specs.Outcome.{Outcome, none, answered, Answers}
-use Rattle.laws.proofs.Outcome.{found_values, apart}
+use Rattle.laws.specs.Outcome.{Outcome, found, none, answered, Answers}
+use Rattle.laws.proofs.Outcome.{found_values, option_known, result_known}
 use Rattle.sweep.specs.Refusal.{number_of, refusal_of}
 use Rattle.sweep.specs.Answer.{outcome_of, crossing_outcome, kept_outcome, scanned, outcome_of_grid, gridded}
 use Rattle.sweep.specs.declared.FreqError.{FreqError}
-use Rattle.sweep.specs.declared.Check.{Check}
-use Rattle.sweep.specs.declared.Check.TheVariants.{Passed, Refused}
-use Rattle.sweep.specs.declared.Crossing.{Crossing}
-use Rattle.sweep.specs.declared.Crossing.TheVariants as crossing
-use Rattle.sweep.specs.declared.Answer.{Answer}
-use Rattle.sweep.specs.declared.Answer.TheVariants as answer
-use Rattle.sweep.specs.declared.Kept.{Kept}
-use Rattle.sweep.specs.declared.Kept.TheVariants as kept
-use Rattle.sweep.specs.declared.Grid.{Grid}
-use Rattle.sweep.specs.declared.Grid.TheVariants as grid
+use Rattle.sweep.specs.declared.NotKept.{NotKept}
 use Rattle.sweep.proofs.Numbers.{number_known, number_above, number_below}
 
-pub outcome_known : (p q : Answer) → outcome_of p ≡ outcome_of q → p ≡ q
-unfolding outcome_of
-outcome_known (answer.Found x) (answer.Found y) h =
-    let l = found_values h in let e : x ≡ y = cc in rw e
-outcome_known (answer.Found x) answer.Absent h = absurd (apart h (omega arith))
-outcome_known (answer.Found x) (answer.Refused f) h = absurd (apart h (number_above f))
-outcome_known answer.Absent (answer.Found y) h = absurd (apart (sym h) (omega arith))
-outcome_known answer.Absent answer.Absent h = refl
-outcome_known answer.Absent (answer.Refused f) h = absurd (apart (sym h) (number_below f))
-outcome_known (answer.Refused e) (answer.Found y) h = absurd (apart (sym h) (number_above e))
-outcome_known (answer.Refused e) answer.Absent h = absurd (apart h (number_below e))
-outcome_known (answer.Refused e) (answer.Refused f) h = ap answer.Refused (number_known e f (ap (λ (o : Outcome). o.number) h))
-
-pub crossing_known : (p q : Crossing) → crossing_outcome p ≡ crossing_outcome q → p ≡ q
+pub crossing_known : (p q : Option Float) → crossing_outcome p ≡ crossing_outcome q → p ≡ q
 unfolding crossing_outcome
-crossing_known (crossing.At x) (crossing.At y) h =
-    let l = found_values h in let e : x ≡ y = cc in rw e
-crossing_known (crossing.At x) crossing.Missing h = absurd (apart h (omega arith))
-crossing_known crossing.Missing (crossing.At y) h = absurd (apart (sym h) (omega arith))
-crossing_known crossing.Missing crossing.Missing h = refl
+crossing_known p q h = option_known (λ x. found (x ∷ [])) (λ x y e. let l = found_values e in cc) (λ x e. omega arith) p q h
 
-pub kept_known : (p q : Kept) → kept_outcome p ≡ kept_outcome q → p ≡ q
+-- a crossing's number is none of those
+crossing_numbers : (c : Option Float) (n : ℕ) → 0 < n → (n ≡ 100 → ⊥) → (crossing_outcome c).number ≡ n → ⊥
+unfolding crossing_outcome
+crossing_numbers (Some x) n h k e = omega arith
+crossing_numbers None n h k e = k (sym e)
+
+pub outcome_known : (p q : Result (Option Float) FreqError) → outcome_of p ≡ outcome_of q → p ≡ q
+unfolding outcome_of
+outcome_known p q h =
+    result_known number_of number_known crossing_outcome crossing_known
+    (λ c e. crossing_numbers c (number_of e) (number_above e) (λ i. let b = number_below e in omega arith)) p q h
+
+pub kept_known : (p q : Result (Option Float) NotKept) → kept_outcome p ≡ kept_outcome q → p ≡ q
 unfolding kept_outcome
-kept_known (kept.Found x) (kept.Found y) h =
-    let l = found_values h in let e : x ≡ y = cc in rw e
-kept_known (kept.Found x) kept.Absent h = absurd (apart h (omega arith))
-kept_known (kept.Found x) kept.NotKept h = absurd (apart h (omega arith))
-kept_known kept.Absent (kept.Found y) h = absurd (apart (sym h) (omega arith))
-kept_known kept.Absent kept.Absent h = refl
-kept_known kept.Absent kept.NotKept h = absurd (apart h (omega arith))
-kept_known kept.NotKept (kept.Found y) h = absurd (apart (sym h) (omega arith))
-kept_known kept.NotKept kept.Absent h = absurd (apart (sym h) (omega arith))
-kept_known kept.NotKept kept.NotKept h = refl
+kept_known p q h =
+    result_known (λ e. 101) (λ d e i. refl) crossing_outcome crossing_known (λ c e. crossing_numbers c 101 (omega arith) (λ i. omega arith)) p q h
 
-pub grid_known : (p q : Grid) → outcome_of_grid p ≡ outcome_of_grid q → p ≡ q
+pub grid_known : (p q : Result (Unit {0}) FreqError) → outcome_of_grid p ≡ outcome_of_grid q → p ≡ q
 unfolding outcome_of_grid
-grid_known grid.Filled grid.Filled h = refl
-grid_known grid.Filled (grid.Refused f) h = absurd (apart h (number_above f))
-grid_known (grid.Refused e) grid.Filled h = absurd (apart (sym h) (number_above e))
-grid_known (grid.Refused e) (grid.Refused f) h = ap grid.Refused (number_known e f (ap (λ (o : Outcome). o.number) h))
+grid_known p q h = result_known number_of number_known (λ x. found []) (λ x y e. refl) (λ x e i. let a = number_above e in omega arith) p q h
 
 -- ---- crossings as a host has them: a number that is returned, and a place
 
 -- every crossing has such an answer
-pub crossing_there : (c : Crossing) (before : Float) → (r : ℕ) × ((after : Float) × Answers (crossing_outcome c) r (before ∷ []) (after ∷ []))
+pub crossing_there : (c : Option Float) (before : Float) → (r : ℕ) × ((after : Float) × Answers (crossing_outcome c) r (before ∷ []) (after ∷ []))
 unfolding crossing_outcome
-crossing_there (crossing.At x) before = (0, (x, record { number = refl; place = refl }))
-crossing_there crossing.Missing before = (100, (before, record { number = refl; place = refl }))
+crossing_there (Some x) before = (0, (x, record { number = refl; place = refl }))
+crossing_there None before = (100, (before, record { number = refl; place = refl }))
 
-pub kept_there : (k : Kept) (before : Float) → (r : ℕ) × ((after : Float) × Answers (kept_outcome k) r (before ∷ []) (after ∷ []))
+pub kept_there : (k : Result (Option Float) NotKept) (before : Float) → (r : ℕ) × ((after : Float) × Answers (kept_outcome k) r (before ∷ []) (after ∷ []))
 unfolding kept_outcome
-kept_there (kept.Found x) before = (0, (x, record { number = refl; place = refl }))
-kept_there kept.Absent before = (100, (before, record { number = refl; place = refl }))
-kept_there kept.NotKept before = (101, (before, record { number = refl; place = refl }))
+kept_there (Ok c) before = crossing_there c before
+kept_there (Err e) before = (101, (before, record { number = refl; place = refl }))
 
 -- 100 is "none", and no crossing is 101
-pub crossing_none : (c : Crossing) → (crossing_outcome c).number ≡ 100 → crossing_outcome c ≡ none
+pub crossing_none : (c : Option Float) → (crossing_outcome c).number ≡ 100 → crossing_outcome c ≡ none
 unfolding crossing_outcome
-crossing_none (crossing.At x) h = absurd (omega arith)
-crossing_none crossing.Missing h = refl
+crossing_none (Some x) h = absurd (omega arith)
+crossing_none None h = refl
 
-pub crossing_kept : (c : Crossing) → (crossing_outcome c).number ≡ 101 → ⊥
+pub crossing_kept : (c : Option Float) → (crossing_outcome c).number ≡ 101 → ⊥
 unfolding crossing_outcome
-crossing_kept (crossing.At x) h = omega arith
-crossing_kept crossing.Missing h = omega arith
+crossing_kept (Some x) h = omega arith
+crossing_kept None h = omega arith
 
 pub not_zero : (e : FreqError) → number_of e ≡ 0 → ⊥
 not_zero e h =
     let p = number_above e in omega arith
 
 -- ---- the outcome of a scan whose conditions gave n
-module _ {k : Check} {n : ℕ} (given : refusal_of k ≡ n) (c : Crossing) where
-  pub scan_refused : {e : FreqError} → k ≡ Refused e → outcome_of (answer.Refused e) ≡ scanned n c
+module _ {A : Type 0} {k : Result A FreqError} {n : ℕ} (given : refusal_of k ≡ n) (c : Option Float) where
+  pub scan_refused : {e : FreqError} → k ≡ Err e → outcome_of (Err e) ≡ scanned n c
   unfolding outcome_of scanned
   scan_refused {e} h =
       let is : n ≡ number_of e = sym given ∙ ap refusal_of h in
       rw is (rw (ne_eqb (number_of e) 0 (not_zero e)))
 
-  pub scan_passed : {o : Outcome} → k ≡ Passed → o ≡ crossing_outcome c → o ≡ scanned n c
+  pub scan_passed : {x : A} {o : Outcome} → k ≡ Ok x → o ≡ crossing_outcome c → o ≡ scanned n c
   unfolding scanned
   scan_passed h e = let z : n ≡ 0 = sym given ∙ ap refusal_of h in rw z e
 
 -- ---- the two answers of a filler, whose conditions gave n: the answer, and the lent list
-module _ {k : Check} {n : ℕ} (given : refusal_of k ≡ n) (g : ℕ → Float) (count : ℕ) (l : List Float) where
-  pub grid_filled : {m : List Float} → k ≡ Passed → m ≡ filled g l count → (outcome_of_grid grid.Filled ≡ answered n []) × (m ≡ gridded n g count l)
+module _ {k : Result (Unit {0}) FreqError} {n : ℕ} (given : refusal_of k ≡ n) (g : ℕ → Float) (count : ℕ) (l : List Float) where
+  pub grid_filled : {x : Unit {0}} {m : List Float} → k ≡ Ok x → m ≡ filled g l count → (outcome_of_grid (Ok tt) ≡ answered n []) × (m ≡ gridded n g count l)
   unfolding outcome_of_grid gridded answered
   grid_filled h e = let z : n ≡ 0 = sym given ∙ ap refusal_of h in (rw z, rw (z, e))
 
-  pub grid_refused : {e : FreqError} → k ≡ Refused e → (outcome_of_grid (grid.Refused e) ≡ answered n []) × (l ≡ gridded n g count l)
+  pub grid_refused : {e : FreqError} → k ≡ Err e → (outcome_of_grid (Err e) ≡ answered n []) × (l ≡ gridded n g count l)
   unfolding outcome_of_grid gridded answered
   grid_refused {e} h =
       let is : n ≡ number_of e = sym given ∙ ap refusal_of h in

@@ -8,12 +8,12 @@ use borrow.Author.Tests.{eqb-true, ltb-false}
 use lib.Dec.{eqb, ltb}
 use lib.ListN.{length}
 use lib.Ieee.{Float}
+use Rattle.std.specs.Prelude.{Result, Ok, Err}
 use Rattle.laws.specs.Outcome.{when}
 use Rattle.laws.proofs.Outcome.{when_passed}
 use Rattle.sweep.specs.Refusal.{refusal_of, scan_refusal, lists_refusal, SameLength}
+use Rattle.sweep.specs.declared.FreqError.{FreqError}
 use Rattle.sweep.specs.declared.FreqError.TheVariants.{LengthsDiffer, TooMany}
-use Rattle.sweep.specs.declared.Check.{Check}
-use Rattle.sweep.specs.declared.Check.TheVariants.{Passed, Refused}
 
 pub both_true : (a b : Bool) → (a && b) ≡ true → (a ≡ true) × (b ≡ true)
 both_true true true h = (refl, refl)
@@ -36,16 +36,16 @@ same_length xs ys zs h =
 
 -- ---- the number that the conditions give is that of some check
 abbrev pub Checked : ℕ → Type 0
-Checked n = (k : Check) × (refusal_of k ≡ n)
+Checked n = (k : Result (Unit {0}) FreqError) × (refusal_of k ≡ n)
 
 pub scan_checked : (same : Bool) (n : ℕ) → Checked (scan_refusal same n)
 unfolding scan_refusal
-scan_checked false n = (Refused LengthsDiffer, refl)
+scan_checked false n = (Err LengthsDiffer, refl)
 scan_checked true n = go (ltb 4096 n)
   where
     go : (b : Bool) → Checked (when b 15 0)
-    go true = (Refused TooMany, refl)
-    go false = (Passed, refl)
+    go true = (Err TooMany, refl)
+    go false = (Ok tt, refl)
 
 pub lists_checked : (xs ys zs : List Float) → Checked (lists_refusal xs ys zs)
 unfolding lists_refusal

@@ -5,14 +5,13 @@ use mathlib.Core.Bool.{cond}
 use native.Mathlib.Omega.{arith}
 use mathlib.Core.List.{List}
 use lib.Ieee.{Float}
+use Rattle.std.specs.Prelude.{Result, Ok, Err}
 use lib.Dec.{T, eqb, ltb, ltb→lt}
 use Rattle.laws.specs.Outcome.{refused, answered}
 use Rattle.laws.proofs.Outcome.{answered_refused}
 use Rattle.sweep.specs.Refusal.{number_of, refusal_of}
 use Rattle.sweep.specs.declared.FreqError.{FreqError}
 use Rattle.sweep.specs.declared.FreqError.TheVariants.{InsufficientPoints, InvalidFrequencyRange, InvalidParameter, LengthsDiffer, CubicLeftOut, TooFewPairs, NoRoom, TooMany, WrongOrder, WrongIndex, WrongByteCount}
-use Rattle.sweep.specs.declared.Check.{Check}
-use Rattle.sweep.specs.declared.Check.TheVariants.{Passed, Refused}
 
 -- the refusal that has a number
 error_of : ℕ → FreqError
@@ -59,18 +58,18 @@ pub number_below : (e : FreqError) → number_of e < 100
 number_below e = ltb→lt (number_of e) 100 (numbered e).below
 
 -- conditions that are passed, or refused, by their number
-pub check_known : (k l : Check) → refusal_of k ≡ refusal_of l → k ≡ l
-check_known Passed Passed h = refl
-check_known Passed (Refused f) h = let p = number_above f in absurd (omega arith)
-check_known (Refused e) Passed h = let p = number_above e in absurd (omega arith)
-check_known (Refused e) (Refused f) h = ap Refused (number_known e f h)
+pub check_known : (k l : Result (Unit {0}) FreqError) → refusal_of k ≡ refusal_of l → k ≡ l
+check_known (Ok x) (Ok y) h = refl
+check_known (Ok x) (Err f) h = let p = number_above f in absurd (omega arith)
+check_known (Err e) (Ok y) h = let p = number_above e in absurd (omega arith)
+check_known (Err e) (Err f) h = ap Err (number_known e f h)
 
 -- ---- what the answer of a call comes to, whose conditions gave n
-module _ {k : Check} {n : ℕ} (given : refusal_of k ≡ n) where
-  pub turned_away : {e : FreqError} (values : List Float) → k ≡ Refused e → refused (number_of e) ≡ answered n values
+module _ {A : Type 0} {k : Result A FreqError} {n : ℕ} (given : refusal_of k ≡ n) where
+  pub turned_away : {e : FreqError} (values : List Float) → k ≡ Err e → refused (number_of e) ≡ answered n values
   turned_away {e} values h =
       let is : number_of e ≡ n = sym (ap refusal_of h) ∙ given in
       rw is (sym (answered_refused values (rw is at (number_above e))))
 
-  pub let_through : k ≡ Passed → n ≡ 0
+  pub let_through : {x : A} → k ≡ Ok x → n ≡ 0
   let_through h = sym given ∙ ap refusal_of h

@@ -6,12 +6,10 @@ use mathlib.Core.List.{List, [], ◌++◌}
 use native.Mathlib.Omega.{arith}
 use borrow.Author.Tests.{ne_eqb}
 use lib.Ieee.{Float}
+use Rattle.std.specs.Prelude.{Option, Some, None, Result, Ok, Err}
 use Rattle.sweep.specs.Plain.{read_mark, marked_read, crossing_mark, crossing_value, marked_crossing, kept_mark, kept_value, marked_kept}
 use Rattle.sweep.specs.Runs.{Calls, book, mark, Reached, left_after, is_taken}
-use Rattle.sweep.specs.declared.Crossing.{Crossing}
-use Rattle.sweep.specs.declared.Crossing.TheVariants.{At, Missing}
-use Rattle.sweep.specs.declared.Kept.{Kept}
-use Rattle.sweep.specs.declared.Kept.TheVariants.{Found, Absent, NotKept}
+use Rattle.sweep.specs.declared.NotKept.{NotKept}
 use Rattle.sweep.proofs.Runs.{whole}
 
 -- ---- what is written is read back
@@ -20,24 +18,24 @@ pub read_back : (b : Bool) → marked_read (read_mark b) ≡ b
 read_back true = refl
 read_back false = refl
 
-pub crossing_back : (c : Crossing) → marked_crossing (crossing_mark c) (crossing_value c) ≡ c
-crossing_back (At x) = refl
-crossing_back Missing = refl
+pub crossing_back : (c : Option Float) → marked_crossing (crossing_mark c) (crossing_value c) ≡ c
+crossing_back (Some x) = refl
+crossing_back None = refl
 
-pub kept_back : (k : Kept) → marked_kept (kept_mark k) (kept_value k) ≡ k
-kept_back (Found x) = refl
-kept_back Absent = refl
-kept_back NotKept = refl
+pub kept_back : (k : Result (Option Float) NotKept) → marked_kept (kept_mark k) (kept_value k) ≡ k
+kept_back (Ok (Some x)) = refl
+kept_back (Ok None) = refl
+kept_back (Err e) = refl
 
 -- ---- what marks mean that no call made: any but 0 counts, of what is kept any but 0 and 1 is "not kept"
 
 pub mark_counts : (mark : ℕ) → (mark ≡ 0 → ⊥) → marked_read mark ≡ true
 mark_counts mark h = rw (ne_eqb mark 0 h)
 
-pub crossing_counts : (mark : ℕ) (x : Float) → (mark ≡ 0 → ⊥) → marked_crossing mark x ≡ At x
+pub crossing_counts : (mark : ℕ) (x : Float) → (mark ≡ 0 → ⊥) → marked_crossing mark x ≡ Some x
 crossing_counts mark x h = rw (ne_eqb mark 0 h)
 
-pub kept_not : (mark : ℕ) (x : Float) → 1 < mark → marked_kept mark x ≡ NotKept
+pub kept_not : (mark : ℕ) (x : Float) → 1 < mark → marked_kept mark x ≡ Err (record {})
 kept_not mark x h = rw (ne_eqb mark 0 (λ (e : mark ≡ 0). omega arith), ne_eqb mark 1 (λ (e : mark ≡ 1). omega arith))
 
 -- ---- A kind of summary by its laws, as in `Runs`, whose summaries cross as plain numbers and are read back.

@@ -15,8 +15,7 @@ use lib.Ieee.Scale.{round_same}
 use Rattle.laws.proofs.Order.{not_le_of_lt}
 use Rattle.laws.proofs.Signs.{signed, round_signed}
 use Rattle.scalar.specs.Scalar.{f0}
-use Rattle.sweep.specs.Scan.{crosses_by}
-use Rattle.sweep.specs.declared.Sought.TheVariants.{Zero}
+use Rattle.sweep.specs.Scan.{crosses_zero}
 
 -- below 0 where s is true, above 0 where it is false; a NaN counts on either side
 abbrev pub beside : Bool → Float → Bool
@@ -55,7 +54,7 @@ and_false : (p : Bool) → (p && false) ≡ false
 and_false true = refl
 and_false false = refl
 
-pub one_side : (s : Bool) (a b : Float) → T (beside s a) → T (beside s b) → false ≡ crosses_by Zero a b
+pub one_side : (s : Bool) (a b : Float) → T (beside s a) → T (beside s b) → false ≡ crosses_zero a b
 one_side true a b h k = rw (below_not_above a h, below_not_above b k, and_false (le a f0))
 one_side false a b h k = rw (above_not_below a h, above_not_below b k, and_false (le f0 a))
 
@@ -133,7 +132,7 @@ sides (fin false zero e) (fin false n d) h = never (zero_first e d _) h
 sides (fin false (suc m) e) (fin false zero d) h = never (zero_second e d _) h
 sides (fin false (suc m) e) (fin false (suc n) d) h = inl (some m, some n)
 
-pub product_above : (a b : Float) → lt f0 (mul binary64 a b) ≡ true → false ≡ crosses_by Zero a b
+pub product_above : (a b : Float) → lt f0 (mul binary64 a b) ≡ true → false ≡ crosses_zero a b
 product_above a b h = elim (sides a b h) [ inl w ↦ one_side false a b w.0 w.1 | inr w ↦ one_side true a b w.0 w.1 ]
 
 -- ---- a NaN crosses nothing
@@ -146,5 +145,5 @@ nan_not_below : le nan f0 ≡ false
 unfolding le of_bits
 nan_not_below = refl
 
-pub nan_crosses_none : (a b : Float) → ne b b ≡ true → false ≡ crosses_by Zero a b
+pub nan_crosses_none : (a b : Float) → ne b b ≡ true → false ≡ crosses_zero a b
 nan_crosses_none a b h = rw (differs_from_itself b (subst T (sym h) tt), nan_not_above, nan_not_below, and_false (le f0 a), and_false (le a f0))

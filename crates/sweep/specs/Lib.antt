@@ -3,3 +3,4 @@ pub mod Answer
 pub mod Plain
 pub mod Scan
 pub mod Runs
+pub mod Ends

@@ -1,12 +1,10 @@
 -- The numbers of the refusals, and the conditions of scans and grids. Definitions only.
-use Rattle.std.specs.Prelude.{ℕ, ◌≡◌, Bool, not, ◌&&◌, List, eqb, ltb, length, Float}
+use Rattle.std.specs.Prelude.{ℕ, ◌≡◌, Bool, not, ◌&&◌, List, Result, Ok, Err, eqb, ltb, length, Float}
 use Rattle.std.specs.Float.Ieee.{le}
 use Rattle.laws.specs.Outcome.{when}
 use Rattle.scalar.specs.Scalar.{f0}
 use Rattle.sweep.specs.declared.FreqError.{FreqError}
 use Rattle.sweep.specs.declared.FreqError.TheVariants.{InsufficientPoints, InvalidFrequencyRange, InvalidParameter, LengthsDiffer, CubicLeftOut, TooFewPairs, NoRoom, TooMany, WrongOrder, WrongIndex, WrongByteCount}
-use Rattle.sweep.specs.declared.Check.{Check}
-use Rattle.sweep.specs.declared.Check.TheVariants.{Passed, Refused}
 
 abbrev pub number_of : FreqError → ℕ
 number_of InsufficientPoints = 1
@@ -22,9 +20,9 @@ number_of WrongIndex = 17
 number_of WrongByteCount = 19
 
 -- the number of the first condition that turned the call away, and 0 where all are passed
-abbrev pub refusal_of : Check → ℕ
-refusal_of Passed = 0
-refusal_of (Refused e) = number_of e
+abbrev pub refusal_of : {A : Type 0} → Result A FreqError → ℕ
+refusal_of (Ok x) = 0
+refusal_of (Err e) = number_of e
 
 -- A scan, or a part fed: 11 if list lengths differ; 15 above 4,096 readings.
 unfoldable pub scan_refusal : Bool → ℕ → ℕ
