@@ -7,7 +7,7 @@ use borrow.Author.Tests.{ne_eqb}
 use lib.Ieee.{Float}
 use Rattle.std.specs.Prelude.{Option, Some, None, Result, Ok, Err}
 use Rattle.laws.specs.Loops.{filled}
-use Rattle.laws.specs.Outcome.{Outcome, found, none, answered, Answers}
+use Rattle.laws.specs.Outcome.{Outcome, found, none, refused, answered, Answers}
 use Rattle.laws.proofs.Outcome.{found_values, option_known, result_known}
 use Rattle.sweep.specs.Refusal.{number_of, refusal_of}
 use Rattle.sweep.specs.Answer.{outcome_of, crossing_outcome, kept_outcome, scanned, outcome_of_grid, gridded}
@@ -92,3 +92,23 @@ module _ {k : Result (Unit {0}) FreqError} {n : ℕ} (given : refusal_of k ≡ n
       let is : n ≡ number_of e = sym given ∙ ap refusal_of h in
       let no_zero = ne_eqb (number_of e) 0 (not_zero e) in
       (rw is (rw no_zero), rw is (rw no_zero))
+
+-- ---- what a call comes to that hands a refusal on, or that was let through; n is what its conditions gave
+
+module _ {n : ℕ} (e : FreqError) (h : number_of e ≡ n) where
+  pub refusal_handed_on : (values : List Float) → refused (number_of e) ≡ answered n values
+  unfolding answered
+  refusal_handed_on values = rw (← h) (rw (ne_eqb (number_of e) 0 (not_zero e)))
+
+  pub scan_turned_away : (c : Option Float) → outcome_of (Err e) ≡ scanned n c
+  unfolding outcome_of scanned
+  scan_turned_away c = rw (← h) (rw (ne_eqb (number_of e) 0 (not_zero e)))
+
+module _ {n : ℕ} (h : 0 ≡ n) where
+  pub values_found : (values : List Float) → found values ≡ answered n values
+  unfolding answered
+  values_found values = rw (← h)
+
+  pub scan_let_through : (c : Option Float) → outcome_of (Ok c) ≡ scanned n c
+  unfolding outcome_of scanned
+  scan_let_through c = rw (← h)

@@ -1,17 +1,14 @@
 -- The value of a transfer function at a frequency ω, from two lists: cosine and sine of -(ω * k) for k = 0, 1, 2 and on. Definitions only.
-use Rattle.std.specs.Prelude.{ℕ, zero, suc, ◌+◌, max, not, List, ◌++◌, eqb, ltb, length, get_or, Float}
+use Rattle.std.specs.Prelude.{ℕ, zero, suc, ◌+◌, max, not, List, ◌++◌, Result, eqb, ltb, length, get_or, Float}
 use Rattle.std.specs.Float.{nan, binary64}
 use Rattle.std.specs.Float.Ieee.{add, mul}
-use Rattle.laws.specs.Outcome.{Outcome, found, refused, when, answered}
+use Rattle.laws.specs.Outcome.{Outcome, found, result_outcome, when, answered}
 use Rattle.scalar.specs.Scalar.{f0, f1}
 use Rattle.complex.specs.declared.Complex.{Complex}
 use Rattle.complex.specs.Complex.{values_of, quotient_or_zero}
 use Rattle.sweep.specs.Refusal.{number_of}
+use Rattle.sweep.specs.declared.FreqError.{FreqError}
 use Rattle.transfer_fn.specs.declared.TransferFn.{TransferFn}
-use Rattle.transfer_fn.specs.declared.Response.{Response}
-use Rattle.transfer_fn.specs.declared.Response.TheVariants as response
-use Rattle.transfer_fn.specs.declared.Both.{Both}
-use Rattle.transfer_fn.specs.declared.Both.TheVariants as both
 
 -- ((start + term 0) + term 1) + .., n terms in rising k, each sum rounded before the next
 unfoldable pub sum_up : Float → (ℕ → Float) → ℕ → Float
@@ -50,14 +47,12 @@ evaluation_refusal order cosines sines =
 -- ---- answers in the numbers of document 01
 
 -- 0 with real and imaginary part, or the refusal
-unfoldable pub outcome_of : Response → Outcome
-outcome_of (response.Value z) = found (values_of z)
-outcome_of (response.Refused e) = refused (number_of e)
+unfoldable pub outcome_of : Result Complex FreqError → Outcome
+outcome_of r = result_outcome number_of (λ z. found (values_of z)) r
 
 -- 0 with the parts of both values, or the refusal
-unfoldable pub outcome_of_both : Both → Outcome
-outcome_of_both (both.Values p c) = found (values_of p ++ values_of c)
-outcome_of_both (both.Refused e) = refused (number_of e)
+unfoldable pub outcome_of_both : Result (Complex × Complex) FreqError → Outcome
+outcome_of_both r = result_outcome number_of (λ v. found (values_of v.0 ++ values_of v.1)) r
 
 unfoldable pub evaluation : TransferFn → List Float → List Float → Outcome
 evaluation tf cosines sines =

@@ -2,12 +2,12 @@
 // 2 and on, as the Rust computes them.
 #![tactic(auto)]
 
-ghost use Rattle.std.specs.Prelude.{◌≡◌, ◌+◌, ◌<◌, ◌≤◌, max, length};
+ghost use Rattle.std.specs.Prelude.{◌≡◌, ◌+◌, ◌<◌, ◌≤◌, max, length, IfOk};
 ghost use Rattle.sweep.specs.Refusal.{refusal_of};
 ghost use Rattle.transfer_fn.specs.Evaluation.{pair_sum, value_at, evaluation_refusal, outcome_of, outcome_of_both, evaluation, evaluation_of_both};
 
 use complex::Complex;
-use sweep::{Check, FreqError};
+use sweep::FreqError;
 
 // (b[0] + b[1] z^-1 + ..) / (1 + a[0] z^-1 + a[1] z^-2 + ..), with `order` coefficients of each kind.
 #[derive(Clone, Copy)]
@@ -17,91 +17,80 @@ pub struct TransferFn {
     pub order: usize,
 }
 
-// A value at a frequency, or why there is none.
+// The pairs of a frequency: cosine and sine of -(ω * k) at place k.
 #[derive(Clone, Copy)]
-pub enum Response {
-    Value(Complex),
-    Refused(FreqError),
+struct Pairs<'a> {
+    cosines: &'a [f64],
+    sines: &'a [f64],
+    ghost same: { length cosines.now ≡ length sines.now },
 }
 
-// The values of two transfer functions at one frequency.
-#[derive(Clone, Copy)]
-pub enum Both {
-    Values(Complex, Complex),
-    Refused(FreqError),
-}
+impl<'a> Pairs<'a> {
+    // Pairs that serve for an evaluation up to `order`.
+    #[tactic(auto, unfolding(crate::specs::Evaluation::evaluation_refusal))]
+    fn new(order: usize, cosines: &'a [f64], sines: &'a [f64]) -> Result<Pairs<'a>, FreqError>
+        ensures refusal { refusal_of result ≡ evaluation_refusal order (length cosines.now) (length sines.now) }
+        ensures pairs { IfOk result (λ p. (p.cosines.now ≡ cosines.now) × (p.sines.now ≡ sines.now) × (order ≤ 8) × (order < length cosines.now)) }
+    {
+        if 8 < order {
+            return Err(FreqError::WrongOrder);
+        }
+        if cosines.len() != sines.len() {
+            return Err(FreqError::LengthsDiffer);
+        }
+        if cosines.len() <= order {
+            return Err(FreqError::TooFewPairs);
+        }
+        Ok(Pairs { cosines, sines })
+    }
 
-// The conditions of an evaluation up to `order`, on so many cosines and sines.
-fn check_evaluation(order: usize, cosines: usize, sines: usize) -> Check
-    ensures { refusal_of result ≡ evaluation_refusal order cosines sines }
-{
-    if 8 < order {
-        return Check::Refused(FreqError::WrongOrder);
+    // `start` and the first n coefficients, each times its pair; coefficient 0 has the pair `first`.
+    fn sum(self, start: f64, coefficients: &[f64; 8], n: usize, first: usize) -> Complex
+        requires { (n ≤ 8) × (first ≤ 1) × (n + first ≤ length self.cosines.now) }
+        ensures { result ≡ pair_sum start coefficients.now n self.entry.cosines.now self.entry.sines.now first }
+    {
+        let mut re = start;
+        let mut im = 0.0;
+        for k in 0..n {
+            re += coefficients[k] * self.cosines[k + first];
+            im += coefficients[k] * self.sines[k + first];
+        }
+        Complex { re, im }
     }
-    if cosines != sines {
-        return Check::Refused(FreqError::LengthsDiffer);
-    }
-    if cosines <= order {
-        return Check::Refused(FreqError::TooFewPairs);
-    }
-    Check::Passed
-}
 
-// `start` and the first n coefficients, each times its pair; coefficient 0 has the pair `first`.
-fn pair_sum(
-    start: f64,
-    coefficients: &[f64; 8],
-    n: usize,
-    cosines: &[f64],
-    sines: &[f64],
-    first: usize,
-) -> Complex
-    requires { (n ≤ 8) × (first ≤ 1) × (n + first ≤ length cosines.now) × (n + first ≤ length sines.now) }
-    ensures { result ≡ pair_sum start coefficients.now n cosines.now sines.now first }
-{
-    let mut re = start;
-    let mut im = 0.0;
-    for k in 0..n {
-        re += coefficients[k] * cosines[k + first];
-        im += coefficients[k] * sines[k + first];
+    // The value of `tf` there.
+    #[tactic(auto, unfolding(crate::specs::Evaluation::value_at, crate::specs::Evaluation::numerator, crate::specs::Evaluation::denominator))]
+    fn value_of(self, tf: TransferFn) -> Complex
+        requires { (tf.order ≤ 8) × (tf.order < length self.cosines.now) }
+        ensures { result ≡ value_at tf self.entry.cosines.now self.entry.sines.now }
+    {
+        let b = tf.b;
+        let a = tf.a;
+        let num = self.sum(0.0, &b, tf.order, 0);
+        let den = self.sum(1.0, &a, tf.order, 1);
+        num.divide_or_zero(den)
     }
-    Complex { re, im }
-}
-
-fn value_at(tf: TransferFn, cosines: &[f64], sines: &[f64]) -> Complex
-    requires { (tf.order ≤ 8) × (tf.order < length cosines.now) × (tf.order < length sines.now) }
-    ensures { result ≡ value_at tf cosines.now sines.now }
-{
-    let order = tf.order;
-    let b = tf.b;
-    let a = tf.a;
-    let num = pair_sum(0.0, &b, order, cosines, sines, 0);
-    let den = pair_sum(1.0, &a, order, cosines, sines, 1);
-    num.divide_or_zero(den)
 }
 
 // The value of `tf` at the frequency whose pairs are lent.
-pub fn eval_tf_complex(tf: TransferFn, cosines: &[f64], sines: &[f64]) -> Response
+#[tactic(auto, unfolding(crate::specs::Evaluation::outcome_of, crate::specs::Evaluation::evaluation), using(sweep::proofs::Answers::refusal_handed_on, sweep::proofs::Answers::values_found))]
+pub fn eval_tf_complex(tf: TransferFn, cosines: &[f64], sines: &[f64]) -> Result<Complex, FreqError>
     ensures { outcome_of result ≡ evaluation tf cosines.now sines.now }
 {
-    match check_evaluation(tf.order, cosines.len(), sines.len()) {
-        Check::Refused(e) => Response::Refused(e),
-        Check::Passed => Response::Value(value_at(tf, cosines, sines)),
-    }
-}
-
-fn larger(m: usize, n: usize) -> usize
-    ensures { result ≡ max m n }
-{
-    if m < n { n } else { m }
+    let pairs = Pairs::new(tf.order, cosines, sines)?;
+    Ok(pairs.value_of(tf))
 }
 
 // The values of `p` and `c` there, under the conditions of the larger order.
-pub fn eval_both(p: TransferFn, c: TransferFn, cosines: &[f64], sines: &[f64]) -> Both
+#[tactic(auto, unfolding(crate::specs::Evaluation::outcome_of_both, crate::specs::Evaluation::evaluation_of_both), using(sweep::proofs::Answers::refusal_handed_on, sweep::proofs::Answers::values_found))]
+pub fn eval_both(
+    p: TransferFn,
+    c: TransferFn,
+    cosines: &[f64],
+    sines: &[f64],
+) -> Result<(Complex, Complex), FreqError>
     ensures { outcome_of_both result ≡ evaluation_of_both p c cosines.now sines.now }
 {
-    match check_evaluation(larger(p.order, c.order), cosines.len(), sines.len()) {
-        Check::Refused(e) => Both::Refused(e),
-        Check::Passed => Both::Values(value_at(p, cosines, sines), value_at(c, cosines, sines)),
-    }
+    let pairs = Pairs::new(p.order.max(c.order), cosines, sines)?;
+    Ok((pairs.value_of(p), pairs.value_of(c)))
 }

@@ -3,7 +3,7 @@ use borrow.Author.Rules.{rules}
 use Rattle.laws.proofs.Loops.{arrived}
 use Rattle.transfer_fn.specs.Evaluation.{sum_up, term_of, pair_sum}
 use Rattle.transfer_fn.proofs.Sums.{sum_none, sum_more}
-use Rattle.transfer_fn.proofs.pair_sum.Goals as goal
+use Rattle.transfer_fn.proofs.Pairs.sum.Goals as goal
 
 pub loop-k-init : goal.loop-k-init
 loop-k-init c = (search rules, (sum_none _ _, sum_none _ _))
