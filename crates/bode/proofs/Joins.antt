@@ -6,13 +6,11 @@ use mathlib.Core.List.{List, [], ◌++◌}
 use lib.Ieee.{Float}
 use Rattle.sweep.specs.Answer.{crossing_outcome}
 use Rattle.sweep.specs.Runs.{Cuts, list_of, joined_up}
-use Rattle.sweep.specs.declared.Crossing.TheVariants.{At, Missing}
-use Rattle.sweep.proofs.Scans.{some_append, first_behind, last_behind, crossing_behind}
+use Rattle.std.specs.Prelude.{Some, None}
+use Rattle.sweep.proofs.Behind.{ends-append, crossing-append}
 use Rattle.sweep.proofs.Runs.{join_assoc, neutral_before, neutral_behind, fed_uncut, joined_uncut}
-use Rattle.bode.specs.Bode.{gain_pair, phase_pair, gain_crossover, phase_crossover, crossover_of}
+use Rattle.bode.specs.Bode.{gain_pair, phase_pair, gain_crossover, phase_crossover, Crossover, Gain, Phase, crossover_of}
 use Rattle.bode.specs.Summary.{zero_reading, summary_of, behind, fed_by, join_of, gain_answer, phase_answer, answer_of}
-use Rattle.bode.specs.declared.Crossover.{Crossover}
-use Rattle.bode.specs.declared.Crossover.TheVariants.{Gain, Phase}
 use Rattle.bode.specs.declared.Reading.{Reading}
 use Rattle.bode.specs.declared.summary.BodeSummary.{BodeSummary}
 
@@ -21,11 +19,9 @@ use Rattle.bode.specs.declared.summary.BodeSummary.{BodeSummary}
 behind_append : (l : List Reading) (m : Bool) (k : List Reading) (n o : Bool) → behind (summary_of l m) (summary_of k n) ≡ summary_of (l ++ k) o
 unfolding behind summary_of gain_crossover phase_crossover
 behind_append l m k n o = λ i. record {
-  read = some_append l k i;
-  first = first_behind zero_reading l k i;
-  last = last_behind zero_reading l k i;
-  gain = crossing_behind zero_reading gain_pair l k i;
-  phase = crossing_behind zero_reading phase_pair l k i;
+  ends = ends-append zero_reading l k i;
+  gain = crossing-append zero_reading gain_pair l k i;
+  phase = crossing-append zero_reading phase_pair l k i;
 }
 
 pub fed_append : (l : List Reading) (m : Bool) (k : List Reading) → fed_by (summary_of l m) k ≡ summary_of (l ++ k) m
@@ -48,27 +44,27 @@ blind which l m n = answer_is which l m ∙ sym (answer_is which l n)
 
 -- ---- of any two summaries, those too that no call made: what has no readings has no part in the ends, and a crossing that is there stays
 module _ (s t : BodeSummary) where
-  pub first_of_later : s.read ≡ false → (join_of s t).first ≡ t.first
+  pub first_of_later : s.ends.read ≡ false → (join_of s t).ends.first ≡ t.ends.first
   unfolding join_of behind
   first_of_later h = rw h
 
-  pub last_of_earlier : t.read ≡ false → (join_of s t).last ≡ s.last
+  pub last_of_earlier : t.ends.read ≡ false → (join_of s t).ends.last ≡ s.ends.last
   unfolding join_of behind
   last_of_earlier h = rw h
 
-  pub gain_stays : {w : Float} → s.gain ≡ At w → (join_of s t).gain ≡ At w
+  pub gain_stays : {w : Float} → s.gain ≡ Some w → (join_of s t).gain ≡ Some w
   unfolding join_of behind
   gain_stays h = rw h
 
-  pub phase_stays : {w : Float} → s.phase ≡ At w → (join_of s t).phase ≡ At w
+  pub phase_stays : {w : Float} → s.phase ≡ Some w → (join_of s t).phase ≡ Some w
   unfolding join_of behind
   phase_stays h = rw h
 
-  pub gain_of_later : s.read ≡ false → s.gain ≡ Missing → (join_of s t).gain ≡ t.gain
+  pub gain_of_later : s.ends.read ≡ false → s.gain ≡ None → (join_of s t).gain ≡ t.gain
   unfolding join_of behind
   gain_of_later h e = rw (h, e)
 
-  pub phase_of_later : s.read ≡ false → s.phase ≡ Missing → (join_of s t).phase ≡ t.phase
+  pub phase_of_later : s.ends.read ≡ false → s.phase ≡ None → (join_of s t).phase ≡ t.phase
   unfolding join_of behind
   phase_of_later h e = rw (h, e)
 

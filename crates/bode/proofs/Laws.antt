@@ -6,8 +6,7 @@ use Rattle.laws.specs.Outcome.{none}
 use Rattle.sweep.specs.Answer.{crossing_outcome}
 use Rattle.sweep.specs.Scan.{Neighbours}
 use Rattle.sweep.proofs.Scans.{none_crosses, crosses_none}
-use Rattle.bode.specs.Bode.{between_of, crosses_of, pair_of, crossover_of}
-use Rattle.bode.specs.declared.Crossover.{Crossover}
+use Rattle.bode.specs.Bode.{Crossover, between_of, crosses_of, pair_of, crossover_of}
 use Rattle.bode.specs.declared.Reading.{Reading}
 use Rattle.bode.proofs.Crossovers.{pair_is, crossover_is}
 

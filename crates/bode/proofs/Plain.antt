@@ -6,7 +6,7 @@ use mathlib.Core.List.{[]}
 use lib.Ieee.{Float}
 use Rattle.scalar.specs.Scalar.{f0}
 use Rattle.sweep.specs.Plain.{read_mark, marked_read, crossing_mark, crossing_value, marked_crossing}
-use Rattle.sweep.specs.declared.Crossing.TheVariants.{At}
+use Rattle.std.specs.Prelude.{Some}
 use Rattle.sweep.proofs.Plain.{read_back, crossing_back}
 use Rattle.bode.specs.Bode.{reading, gain_crossover, phase_crossover}
 use Rattle.bode.specs.Summary.{summary_of}
@@ -18,7 +18,7 @@ use Rattle.bode.specs.contracts.summary.BodePlain as plain_type
 
 pub plain_back : (s : BodeSummary) → from_plain (plain_of s) ≡ s
 unfolding plain_of from_plain
-plain_back s = λ i. record { read = read_back s.read i; first = s.first; last = s.last; gain = crossing_back s.gain i; phase = crossing_back s.phase i }
+plain_back s = λ i. record { ends = record { read = read_back s.ends.read i; first = s.ends.first; last = s.ends.last }; gain = crossing_back s.gain i; phase = crossing_back s.phase i }
 
 -- ---- The fields in memory, one after another. `as_values` and `make` are generated from the struct as it is declared.
 
@@ -27,13 +27,13 @@ reading_places omega db phase = refl
 
 pub plain_places : (s : BodeSummary)
     → (plain_type.struct).as_values (plain_of s)
-    ≡ (read_mark s.read, (crossing_mark s.gain, (crossing_mark s.phase, (0, (s.first, (s.last, (crossing_value s.gain, (crossing_value s.phase, tt))))))))
+    ≡ (read_mark s.ends.read, (crossing_mark s.gain, (crossing_mark s.phase, (0, (s.ends.first, (s.ends.last, (crossing_value s.gain, (crossing_value s.phase, tt))))))))
 unfolding plain_of
 plain_places s = refl
 
 -- the marks of readings and of crossings that were found
 pub found_marks : (first last : Reading) (gain phase : Float)
-    → (plain_type.struct).as_values (plain_of (record { read = true; first = first; last = last; gain = At gain; phase = At phase }))
+    → (plain_type.struct).as_values (plain_of (record { ends = record { read = true; first = first; last = last }; gain = Some gain; phase = Some phase }))
     ≡ (1, (1, (1, (0, (first, (last, (gain, (phase, tt))))))))
 unfolding plain_of
 found_marks first last gain phase = refl
@@ -46,6 +46,6 @@ empty_zeros = refl
 -- what any numbers in these places mean
 pub places_mean : (read gain-found phase-found reserved : ℕ) (first last : Reading) (gain phase : Float)
     → from_plain ((plain_type.struct).make (read, (gain-found, (phase-found, (reserved, (first, (last, (gain, (phase, tt)))))))) tt)
-    ≡ record { read = marked_read read; first = first; last = last; gain = marked_crossing gain-found gain; phase = marked_crossing phase-found phase }
+    ≡ record { ends = record { read = marked_read read; first = first; last = last }; gain = marked_crossing gain-found gain; phase = marked_crossing phase-found phase }
 unfolding from_plain
 places_mean read gain-found phase-found reserved first last gain phase = refl

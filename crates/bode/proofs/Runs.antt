@@ -11,17 +11,16 @@ use mathlib.Core.Bool.{false}
 use mathlib.Core.List.{[], ◌∷◌}
 use Rattle.laws.specs.Outcome.{none}
 use Rattle.sweep.specs.Answer.{crossing_outcome}
-use Rattle.sweep.specs.Runs.{Calls, mark, Reached, left_after, run_of, Returned, FedLists}
+use Rattle.sweep.specs.Runs.{Calls, mark, Reached, left_after, left_by, run_of, Returned, FedLists}
 use Rattle.sweep.specs.Scan.{Neighbours}
-use Rattle.sweep.specs.declared.Crossing.{Crossing}
+use Rattle.std.specs.Prelude.{Option, Float}
+use Rattle.sweep.specs.Refusal.{refusal_of}
 use Rattle.sweep.proofs.Conditions.{lists_checked}
 use Rattle.sweep.proofs.Runs.{whole, left_stays, result_says, fed_lists, ran_reached}
-use Rattle.bode.specs.Bode.{gain_crosses, phase_crosses, gain_crossover, phase_crossover}
-use Rattle.bode.specs.Summary.{summary_of, fed_by, join_of, number_of_fed, left_by, gain_answer, phase_answer, Part, part_refusal, part_readings, book_of}
-use Rattle.bode.specs.declared.Crossover.TheVariants.{Gain, Phase}
+use Rattle.bode.specs.Bode.{gain_crosses, phase_crosses, gain_crossover, phase_crossover, Gain, Phase}
+use Rattle.bode.specs.Summary.{summary_of, fed_by, join_of, gain_answer, phase_answer, Part, part_refusal, part_readings, book_of}
 use Rattle.bode.specs.declared.Reading.{Reading}
 use Rattle.bode.specs.declared.summary.BodeSummary.{BodeSummary}
-use Rattle.bode.specs.declared.summary.BodeFed.TheVariants.{Taken, Refused}
 use Rattle.bode.proofs.Laws.{no_crossover_in, none_of_crossover}
 use Rattle.bode.proofs.Joins.{fed_append, join_append, answer_is}
 use Rattle.bode.proofs.summary.BodeSummary.empty.Reads as empty_reads
@@ -45,11 +44,11 @@ abbrev pub JoinedBy : BodeSummary → BodeSummary → BodeSummary → Type 0
 JoinedBy s t u = Returned join_reads.Learnt (s, (t, tt)) u
 
 -- r is what a call of `gain_crossover` on s returned
-abbrev pub GainOf : BodeSummary → Crossing → Type 0
+abbrev pub GainOf : BodeSummary → Option Float → Type 0
 GainOf s r = Returned gain_reads.Learnt (s, tt) r
 
 -- r is what a call of `phase_crossover` on s returned
-abbrev pub PhaseOf : BodeSummary → Crossing → Type 0
+abbrev pub PhaseOf : BodeSummary → Option Float → Type 0
 PhaseOf s r = Returned phase_reads.Learnt (s, tt) r
 
 -- s is a summary that the list of calls may leave
@@ -62,15 +61,15 @@ Reaches = Reached Made FedBy JoinedBy
 -- when no two neighbours of that list cross, whichever parts brought them. A feed's number is what its conditions give over the book; where that is not 0, the
 -- caller has the summary as it was.
 pub record Claim (c : Calls Part) (s : BodeSummary) : Type 0 where
-  pub gain_there : (r : Crossing) × GainOf s r
-  pub phase_there : (r : Crossing) × PhaseOf s r
-  pub gain : (r : Crossing) → GainOf s r → crossing_outcome r ≡ crossing_outcome (gain_crossover (book_of c))
-  pub phase : (r : Crossing) → PhaseOf s r → crossing_outcome r ≡ crossing_outcome (phase_crossover (book_of c))
-  pub no_gain : (r : Crossing) → GainOf s r → crossing_outcome r ≡ none → (x y : Reading) → Neighbours (book_of c) x y → gain_crosses x y ≡ false
-  pub gain_none : (r : Crossing) → GainOf s r → ((x y : Reading) → Neighbours (book_of c) x y → gain_crosses x y ≡ false) → crossing_outcome r ≡ none
-  pub no_phase : (r : Crossing) → PhaseOf s r → crossing_outcome r ≡ none → (x y : Reading) → Neighbours (book_of c) x y → phase_crosses x y ≡ false
-  pub phase_none : (r : Crossing) → PhaseOf s r → ((x y : Reading) → Neighbours (book_of c) x y → phase_crosses x y ≡ false) → crossing_outcome r ≡ none
-  pub feed_number : {p : Part} {t : BodeSummary} (h : FedBy s p t) → number_of_fed h.result ≡ part_refusal (book_of c) (mark c) p
+  pub gain_there : (r : Option Float) × GainOf s r
+  pub phase_there : (r : Option Float) × PhaseOf s r
+  pub gain : (r : Option Float) → GainOf s r → crossing_outcome r ≡ crossing_outcome (gain_crossover (book_of c))
+  pub phase : (r : Option Float) → PhaseOf s r → crossing_outcome r ≡ crossing_outcome (phase_crossover (book_of c))
+  pub no_gain : (r : Option Float) → GainOf s r → crossing_outcome r ≡ none → (x y : Reading) → Neighbours (book_of c) x y → gain_crosses x y ≡ false
+  pub gain_none : (r : Option Float) → GainOf s r → ((x y : Reading) → Neighbours (book_of c) x y → gain_crosses x y ≡ false) → crossing_outcome r ≡ none
+  pub no_phase : (r : Option Float) → PhaseOf s r → crossing_outcome r ≡ none → (x y : Reading) → Neighbours (book_of c) x y → phase_crosses x y ≡ false
+  pub phase_none : (r : Option Float) → PhaseOf s r → ((x y : Reading) → Neighbours (book_of c) x y → phase_crosses x y ≡ false) → crossing_outcome r ≡ none
+  pub feed_number : {p : Part} {t : BodeSummary} (h : FedBy s p t) → refusal_of h.result ≡ part_refusal (book_of c) (mark c) p
   pub feed_refused : {p : Part} {t : BodeSummary} → FedBy s p t → (part_refusal (book_of c) (mark c) p ≡ 0 → ⊥) → t ≡ s
 
 -- ---- the proof: whatever the calls leave is the summary of the book
@@ -97,10 +96,10 @@ demand_3 c s h =
       feed_refused = stays;
     }
   where
-    gain_is : (r : Crossing) → GainOf s r → crossing_outcome r ≡ crossing_outcome (gain_crossover (book_of c))
+    gain_is : (r : Option Float) → GainOf s r → crossing_outcome r ≡ crossing_outcome (gain_crossover (book_of c))
     gain_is r g = rw (summary_of_book h, answer_is Gain) at g.learnt
 
-    phase_is : (r : Crossing) → PhaseOf s r → crossing_outcome r ≡ crossing_outcome (phase_crossover (book_of c))
+    phase_is : (r : Option Float) → PhaseOf s r → crossing_outcome r ≡ crossing_outcome (phase_crossover (book_of c))
     phase_is r g = rw (summary_of_book h, answer_is Phase) at g.learnt
 
     stays : {p : Part} {t : BodeSummary} → FedBy s p t → (part_refusal (book_of c) (mark c) p ≡ 0 → ⊥) → t ≡ s
@@ -113,10 +112,10 @@ next : BodeSummary → Part → BodeSummary
 next s p = left_after (part_refusal [] false p) s (fed_by s (part_readings p))
 
 feed_possible : (s : BodeSummary) (p : Part) → FedBy s p (next s p)
-unfolding next part_refusal part_readings number_of_fed left_by
+unfolding next part_refusal part_readings
 feed_possible s p =
     let k = lists_checked p.omega p.db p.phase in
-    let r = result_says Taken Refused number_of_fed left_by (λ t. refl) (λ e. refl) (λ s t. refl) (λ s e. refl) k s (fed_by s (part_readings p)) in
+    let r = result_says k s (fed_by s (part_readings p)) in
     fed_lists ([], ([], ([], tt))) r.0 (λ a. r.1) (sym r.1.1)
 
 -- the summary that the definitions leave after the calls
@@ -131,8 +130,8 @@ run_reached c =
 
 -- ---- two lists of calls with the same book answer the same, however the sweep was cut, fed and joined
 
-pub same_gain : (c d : Calls Part) → book_of c ≡ book_of d → (s t : BodeSummary) → Reaches c s → Reaches d t → (r q : Crossing) → GainOf s r → GainOf t q → crossing_outcome r ≡ crossing_outcome q
+pub same_gain : (c d : Calls Part) → book_of c ≡ book_of d → (s t : BodeSummary) → Reaches c s → Reaches d t → (r q : Option Float) → GainOf s r → GainOf t q → crossing_outcome r ≡ crossing_outcome q
 same_gain c d e s t h k r q g f = cc ((demand_3 c s h).gain r g, (demand_3 d t k).gain q f)
 
-pub same_phase : (c d : Calls Part) → book_of c ≡ book_of d → (s t : BodeSummary) → Reaches c s → Reaches d t → (r q : Crossing) → PhaseOf s r → PhaseOf t q → crossing_outcome r ≡ crossing_outcome q
+pub same_phase : (c d : Calls Part) → book_of c ≡ book_of d → (s t : BodeSummary) → Reaches c s → Reaches d t → (r q : Option Float) → PhaseOf s r → PhaseOf t q → crossing_outcome r ≡ crossing_outcome q
 same_phase c d e s t h k r q g f = cc ((demand_3 c s h).phase r g, (demand_3 d t k).phase q f)

@@ -1,15 +1,9 @@
 -- The scans over a Bode sweep. Definitions only.
-use Rattle.std.specs.Prelude.{Bool, cond, List, Float}
+use Rattle.std.specs.Prelude.{Bool, cond, List, Option, Some, None, Float}
 use Rattle.std.specs.Float.{binary64}
 use Rattle.std.specs.Float.Ieee.{add, sub, mul, div, neg, lt, of_bits}
 use Rattle.scalar.specs.Scalar.{f0, eps, abs_of}
-use Rattle.sweep.specs.Scan.{first_pair, cross_if, crosses_by, between, zip3}
-use Rattle.sweep.specs.declared.Crossing.{Crossing}
-use Rattle.sweep.specs.declared.Crossing.TheVariants.{At, Missing}
-use Rattle.sweep.specs.declared.Sought.{Sought}
-use Rattle.sweep.specs.declared.Sought.TheVariants.{Zero, Level, Enclosing}
-use Rattle.bode.specs.declared.Crossover.{Crossover}
-use Rattle.bode.specs.declared.Crossover.TheVariants.{Gain, Phase}
+use Rattle.sweep.specs.Scan.{first_pair, cross_if, crosses_zero, crosses_level, encloses, between, zip3}
 use Rattle.bode.specs.declared.Reading.{Reading}
 
 -- 180
@@ -34,21 +28,21 @@ phase_between a b = between a.omega b.omega (sub binary64 (neg f180) a.phase) (s
 
 -- whether two readings cross, and where
 abbrev pub gain_crosses : Reading → Reading → Bool
-gain_crosses a b = crosses_by Zero a.db b.db
+gain_crosses a b = crosses_zero a.db b.db
 
 abbrev pub phase_crosses : Reading → Reading → Bool
-phase_crosses a b = crosses_by (Level (neg f180)) a.phase b.phase
+phase_crosses a b = crosses_level (neg f180) a.phase b.phase
 
-unfoldable pub gain_pair : Reading → Reading → Crossing
+unfoldable pub gain_pair : Reading → Reading → Option Float
 gain_pair a b = cross_if (gain_crosses a b) (gain_between a b)
 
-unfoldable pub phase_pair : Reading → Reading → Crossing
+unfoldable pub phase_pair : Reading → Reading → Option Float
 phase_pair a b = cross_if (phase_crosses a b) (phase_between a b)
 
-unfoldable pub gain_crossover : List Reading → Crossing
+unfoldable pub gain_crossover : List Reading → Option Float
 gain_crossover l = first_pair gain_pair l
 
-unfoldable pub phase_crossover : List Reading → Crossing
+unfoldable pub phase_crossover : List Reading → Option Float
 phase_crossover l = first_pair phase_pair l
 
 -- ---- margins: at a crossover x, by the first pair whose frequencies enclose it
@@ -68,38 +62,38 @@ gain_margin_between x a b = neg (value_at x a.omega b.omega a.db b.db)
 unfoldable pub phase_margin_between : Float → Reading → Reading → Float
 phase_margin_between x a b = add binary64 f180 (value_at x a.omega b.omega a.phase b.phase)
 
-unfoldable pub gain_margin_pair : Float → Reading → Reading → Crossing
-gain_margin_pair x a b = cross_if (crosses_by (Enclosing x) a.omega b.omega) (gain_margin_between x a b)
+unfoldable pub gain_margin_pair : Float → Reading → Reading → Option Float
+gain_margin_pair x a b = cross_if (encloses x a.omega b.omega) (gain_margin_between x a b)
 
-unfoldable pub phase_margin_pair : Float → Reading → Reading → Crossing
-phase_margin_pair x a b = cross_if (crosses_by (Enclosing x) a.omega b.omega) (phase_margin_between x a b)
+unfoldable pub phase_margin_pair : Float → Reading → Reading → Option Float
+phase_margin_pair x a b = cross_if (encloses x a.omega b.omega) (phase_margin_between x a b)
 
 -- the margin at a crossover, if there is one
-unfoldable pub margin_at : (Float → Reading → Reading → Crossing) → List Reading → Crossing → Crossing
-margin_at p l (At x) = first_pair (p x) l
-margin_at p l Missing = Missing
+unfoldable pub margin_at : (Float → Reading → Reading → Option Float) → List Reading → Option Float → Option Float
+margin_at p l (Some x) = first_pair (p x) l
+margin_at p l None = None
 
-unfoldable pub gain_margin : List Reading → Crossing
+unfoldable pub gain_margin : List Reading → Option Float
 gain_margin l = margin_at gain_margin_pair l (phase_crossover l)
 
-unfoldable pub phase_margin : List Reading → Crossing
+unfoldable pub phase_margin : List Reading → Option Float
 phase_margin l = margin_at phase_margin_pair l (gain_crossover l)
 
 -- ---- the same for either crossover
 
--- what is sought between two neighbours, and in which of their values: the magnitude, or the phase
-abbrev pub sought_of : Crossover → Sought
-sought_of Gain = Zero
-sought_of Phase = Level (neg f180)
+-- which crossover of a sweep: where the magnitude crosses 0 dB, or where the phase crosses -180 degrees
+pub data Crossover : Type 0 where
+  Gain : Crossover
+  Phase : Crossover
 
+-- the value of a reading in which it is sought, and whether two values cross
 abbrev pub value_of : Crossover → Reading → Float
 value_of Gain r = r.db
 value_of Phase r = r.phase
 
--- the list of these values
-abbrev pub values_of : Crossover → List Float → List Float → List Float
-values_of Gain db phase = db
-values_of Phase db phase = phase
+abbrev pub cross_of : Crossover → Float → Float → Bool
+cross_of Gain = crosses_zero
+cross_of Phase = crosses_level (neg f180)
 
 -- where two readings that cross do so
 abbrev pub between_of : Crossover → Reading → Reading → Float
@@ -108,26 +102,13 @@ between_of Phase = phase_between
 
 -- whether two readings cross, and where
 abbrev pub crosses_of : Crossover → Reading → Reading → Bool
-crosses_of which a b = crosses_by (sought_of which) (value_of which a) (value_of which b)
+crosses_of which a b = cross_of which (value_of which a) (value_of which b)
 
-abbrev pub pair_of : Crossover → Reading → Reading → Crossing
+abbrev pub pair_of : Crossover → Reading → Reading → Option Float
 pair_of Gain = gain_pair
 pair_of Phase = phase_pair
 
 -- the first crossing in a list
-abbrev pub crossover_of : Crossover → List Reading → Crossing
+abbrev pub crossover_of : Crossover → List Reading → Option Float
 crossover_of Gain = gain_crossover
 crossover_of Phase = phase_crossover
-
--- the margin that is taken at a crossover: at the gain crossover the phase margin, at the phase crossover the gain margin
-abbrev pub margin_between_of : Crossover → Float → Reading → Reading → Float
-margin_between_of Gain = phase_margin_between
-margin_between_of Phase = gain_margin_between
-
-abbrev pub margin_pair_of : Crossover → Float → Reading → Reading → Crossing
-margin_pair_of Gain = phase_margin_pair
-margin_pair_of Phase = gain_margin_pair
-
-abbrev pub margin_of : Crossover → List Reading → Crossing
-margin_of Gain = phase_margin
-margin_of Phase = gain_margin

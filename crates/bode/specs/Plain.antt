@@ -6,12 +6,12 @@ use Rattle.bode.specs.declared.summary.BodePlain.{BodePlain}
 unfoldable pub plain_of : BodeSummary → BodePlain
 plain_of s =
     record {
-      read = read_mark s.read;
+      read = read_mark s.ends.read;
       gain_found = crossing_mark s.gain;
       phase_found = crossing_mark s.phase;
       reserved = 0;
-      first = s.first;
-      last = s.last;
+      first = s.ends.first;
+      last = s.ends.last;
       gain = crossing_value s.gain;
       phase = crossing_value s.phase;
     }
@@ -20,9 +20,7 @@ plain_of s =
 unfoldable pub from_plain : BodePlain → BodeSummary
 from_plain p =
     record {
-      read = marked_read p.read;
-      first = p.first;
-      last = p.last;
+      ends = record { read = marked_read p.read; first = p.first; last = p.last };
       gain = marked_crossing p.gain_found p.gain;
       phase = marked_crossing p.phase_found p.phase;
     }

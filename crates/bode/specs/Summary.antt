@@ -1,18 +1,15 @@
 -- The summary of a Bode sweep, and what feeds and joins make of it. Definitions only.
-use Rattle.std.specs.Prelude.{ℕ, ◌-◌, Bool, false, ◌&&◌, ◌||◌, cond, List, length, get_or, Float}
+use Rattle.std.specs.Prelude.{ℕ, Bool, false, List, Float}
 use Rattle.laws.specs.Outcome.{Outcome}
 use Rattle.scalar.specs.Scalar.{f0}
 use Rattle.sweep.specs.Answer.{crossing_outcome}
-use Rattle.sweep.specs.Refusal.{number_of, lists_refusal}
+use Rattle.sweep.specs.Refusal.{lists_refusal}
 use Rattle.sweep.specs.Runs.{Calls, book, is_taken}
-use Rattle.sweep.specs.Scan.{or_else, not_empty, crossing_at}
-use Rattle.bode.specs.Bode.{reading, readings, gain_pair, phase_pair, gain_crossover, phase_crossover}
-use Rattle.bode.specs.declared.Crossover.{Crossover}
-use Rattle.bode.specs.declared.Crossover.TheVariants.{Gain, Phase}
+use Rattle.sweep.specs.Scan.{or_else}
+use Rattle.sweep.specs.Ends.{ends_of, ends_behind, crossing_between}
+use Rattle.bode.specs.Bode.{reading, readings, gain_pair, phase_pair, gain_crossover, phase_crossover, Crossover, Gain, Phase}
 use Rattle.bode.specs.declared.Reading.{Reading}
 use Rattle.bode.specs.declared.summary.BodeSummary.{BodeSummary}
-use Rattle.bode.specs.declared.summary.BodeFed.{BodeFed}
-use Rattle.bode.specs.declared.summary.BodeFed.TheVariants.{Taken, Refused}
 
 -- ---- the summary
 
@@ -20,27 +17,17 @@ use Rattle.bode.specs.declared.summary.BodeFed.TheVariants.{Taken, Refused}
 abbrev pub zero_reading : Reading
 zero_reading = reading f0 f0 f0
 
--- The summary of a list of readings: whether it has any, the first and the last of them, and the first crossings. The mark, whether a join is among the
--- calls, does not show in it.
+-- The summary of a list of readings: its ends, and the first crossings. The mark, whether a join is among the calls, does not show in it.
 unfoldable pub summary_of : List Reading → Bool → BodeSummary
-summary_of l m =
-    record {
-      read = not_empty l;
-      first = get_or l 0 zero_reading;
-      last = get_or l (length l - 1) zero_reading;
-      gain = gain_crossover l;
-      phase = phase_crossover l;
-    }
+summary_of l m = record { ends = ends_of zero_reading l; gain = gain_crossover l; phase = phase_crossover l }
 
 -- The readings of t behind those of s. The first crossing is that of s, else that of the two readings where they meet, else that of t.
 unfoldable pub behind : BodeSummary → BodeSummary → BodeSummary
 behind s t =
     record {
-      read = s.read || t.read;
-      first = cond s.read s.first t.first;
-      last = cond t.read t.last s.last;
-      gain = or_else (or_else s.gain (crossing_at gain_pair (s.read && t.read) s.last t.first)) t.gain;
-      phase = or_else (or_else s.phase (crossing_at phase_pair (s.read && t.read) s.last t.first)) t.phase;
+      ends = ends_behind s.ends t.ends;
+      gain = or_else (or_else s.gain (crossing_between gain_pair s.ends t.ends)) t.gain;
+      phase = or_else (or_else s.phase (crossing_between phase_pair s.ends t.ends)) t.phase;
     }
 
 -- a feed puts the summary of the part's readings behind s
@@ -52,16 +39,6 @@ unfoldable pub join_of : BodeSummary → BodeSummary → BodeSummary
 join_of s t = behind s t
 
 -- ---- in the numbers of document 01
-
--- the number of a feed: 0 where the part was taken, or the refusal
-unfoldable pub number_of_fed : BodeFed → ℕ
-number_of_fed (Taken t) = 0
-number_of_fed (Refused e) = number_of e
-
--- the summary that the caller of a feed has afterwards: what was returned, or s as it came where the part was refused
-unfoldable pub left_by : BodeFed → BodeSummary → BodeSummary
-left_by (Taken t) s = t
-left_by (Refused e) s = s
 
 -- the answers
 unfoldable pub gain_answer : BodeSummary → Outcome

@@ -1,6 +1,7 @@
 -- Scans over a list of readings, of any kind and any length: the first two neighbours that cross. Definitions only.
 use Rattle.std.specs.Prelude.{ℕ, zero, suc, ◌≡◌, Bool, true, false, not, ◌&&◌, ◌||◌, cond, List, [], ◌∷◌, ◌++◌, Option, Some, None, Float}
 use Rattle.std.specs.Bool.{beq}
+use Rattle.std.specs.Option.{option_or}
 use Rattle.std.specs.Float.{binary64}
 use Rattle.std.specs.Float.Ieee.{add, sub, mul, div, lt, le}
 use Rattle.laws.specs.Outcome.{Outcome}
@@ -12,8 +13,7 @@ use Rattle.sweep.specs.Answer.{scanned}
 
 -- the first of two crossings
 abbrev pub or_else : Option Float → Option Float → Option Float
-or_else (Some w) c = Some w
-or_else None c = c
+or_else a b = option_or a b
 
 -- The first crossing among neighbours, of a reading x and the list behind it: p says where two neighbours cross.
 abbrev pub first_from : {R : Type 0} → (R → R → Option Float) → R → List R → Option Float

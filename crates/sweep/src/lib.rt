@@ -8,7 +8,7 @@ mod lists;
 ghost use Rattle.std.specs.Prelude.{◌≡◌, Option, Float, List, length, get_or};
 ghost use Rattle.sweep.specs.Refusal.{number_of, refusal_of, scan_refusal, grid_refusal};
 ghost use Rattle.sweep.specs.Plain.{kept_mark, kept_value, marked_kept};
-ghost use Rattle.sweep.specs.Scan.{crosses_zero, crosses_level, drops_below, encloses, between, first_pair};
+ghost use Rattle.sweep.specs.Scan.{crosses_zero, crosses_level, drops_below, encloses, between, or_else, first_pair};
 ghost use Rattle.scalar.specs.Scalar.{f0};
 
 pub use ends::Ends;
@@ -130,6 +130,16 @@ pub fn first_crossing<R: Reading, S: Readings<R>, C: Crossing<R>>(
         }
     }
     None
+}
+
+// What was found already, or else the sweep's first crossing. It is scanned only where that decides.
+pub fn crossing_from<R: Reading, S: Readings<R>, C: Crossing<R>>(found: Option<f64>, sweep: &S, crossing: &C) -> Option<f64>
+    ensures { result ≡ or_else found (first_pair (C.pair crossing.now) (S.readings sweep.now)) }
+{
+    match found {
+        Some(_) => found,
+        None => first_crossing(sweep, crossing),
+    }
 }
 
 // Whether one of a and b is at or above 0, and the other at or below. Most neighbours in a sweep lie on one side of 0,
