@@ -2,18 +2,16 @@
 // the values are written only on 0.
 #![tactic(auto)]
 
-ghost use Rattle.std.specs.Prelude.{◌≡◌, [], ◌∷◌};
+ghost use Rattle.std.specs.Prelude.{◌≡◌, ℕ, List, [], ◌∷◌, Float};
 ghost use Rattle.complex.specs.Complex.{values_of};
-ghost use Rattle.complex.specs.Complex as quotient;
-ghost use Rattle.transfer_fn.specs.Evaluation as response;
-ghost use Rattle.sweep.specs.Answer.{outcome_of, crossing_outcome, kept_outcome};
-ghost use Rattle.laws.specs.Outcome.{Answers};
+ghost use Rattle.sweep.specs.Refusal.{number_of};
+ghost use Rattle.laws.specs.Outcome.{Outcome, found, option_outcome, result_outcome, Answers};
 ghost use Rattle.places.specs.Complex.{complex_of, poles_of, parts_of};
 ghost use Rattle.places.specs.Coefficients.{transfer_fn};
 
-use complex::{Complex, Quotient};
-use sweep::{Answer, Crossing, Kept};
-use transfer_fn::{Response, TransferFn};
+use complex::Complex;
+use sweep::{FreqError, NotKept};
+use transfer_fn::TransferFn;
 
 pub fn complex_of(z: &[f64; 2]) -> Complex
     ensures { result ≡ complex_of z.now }
@@ -86,69 +84,88 @@ pub fn transfer_fn(b: &[f64; 8], a: &[f64; 8], order: usize) -> TransferFn
     }
 }
 
-// The number of a quotient; its parts go to `out`.
-pub fn put_quotient(q: Quotient, out: &mut [f64; 2]) -> u32
-    ensures { Answers (quotient.outcome_of q) result out.old out.new }
-{
-    match q {
-        Quotient::Value(z) => {
-            put_complex(z, out);
-            0
-        }
-        Quotient::Nothing => 100,
+// What is answered to a host: its number is returned, and its values go to the place, on 0 alone.
+pub trait Answer {
+    type Place;
+
+    ghost outcome: { Self → Outcome };
+
+    ghost values: { Self.Place → List Float };
+
+    fn put(self, out: &mut Self::Place) -> u32
+        ensures { Answers (outcome self) result (values out.old) (values out.new) };
+}
+
+impl Answer for f64 {
+    type Place = f64;
+
+    ghost outcome = { λ x. found (x ∷ []) };
+
+    ghost values = { λ x. x ∷ [] };
+
+    fn put(self, out: &mut f64) -> u32 {
+        *out = self;
+        0
     }
 }
 
-// The number of a response; its parts go to `out`.
-pub fn put_response(value: Response, out: &mut [f64; 2]) -> u32
-    ensures { Answers (response.outcome_of value) result out.old out.new }
-{
-    match value {
-        Response::Value(z) => {
-            put_complex(z, out);
-            0
-        }
-        Response::Refused(e) => e.number(),
+impl Answer for Complex {
+    type Place = [f64; 2];
+
+    ghost outcome = { λ z. found (values_of z) };
+
+    ghost values = { λ l. l };
+
+    fn put(self, out: &mut [f64; 2]) -> u32 {
+        put_complex(self, out);
+        0
     }
 }
 
-// The number of an answer; its value goes to `out`.
-pub fn put(answer: Answer, out: &mut f64) -> u32
-    ensures { Answers (outcome_of answer) result (out.old ∷ []) (out.new ∷ []) }
-{
-    match answer {
-        Answer::Found(x) => {
-            *out = x;
-            0
+// 100 for none.
+impl<A: Answer> Answer for Option<A> {
+    type Place = A::Place;
+
+    ghost outcome = { option_outcome A.outcome };
+
+    ghost values = { A.values };
+
+    fn put(self, out: &mut A::Place) -> u32 {
+        match self {
+            Some(x) => x.put(out),
+            None => 100,
         }
-        Answer::Absent => 100,
-        Answer::Refused(e) => e.number(),
     }
 }
 
-// The number of a crossing; its frequency goes to `out`.
-pub fn put_crossing(crossing: Crossing, out: &mut f64) -> u32
-    ensures { Answers (crossing_outcome crossing) result (out.old ∷ []) (out.new ∷ []) }
-{
-    match crossing {
-        Crossing::At(x) => {
-            *out = x;
-            0
+// A refusal's number.
+impl<A: Answer> Answer for Result<A, FreqError> {
+    type Place = A::Place;
+
+    ghost outcome = { result_outcome number_of A.outcome };
+
+    ghost values = { A.values };
+
+    fn put(self, out: &mut A::Place) -> u32 {
+        match self {
+            Ok(x) => x.put(out),
+            Err(e) => e.number(),
         }
-        Crossing::Missing => 100,
     }
 }
 
-// The number of what is kept, 101 where it is not; its frequency goes to `out`.
-pub fn put_kept(kept: Kept, out: &mut f64) -> u32
-    ensures { Answers (kept_outcome kept) result (out.old ∷ []) (out.new ∷ []) }
-{
-    match kept {
-        Kept::Found(x) => {
-            *out = x;
-            0
+// 101 for what is not kept.
+impl<A: Answer> Answer for Result<A, NotKept> {
+    type Place = A::Place;
+
+    ghost outcome = { result_outcome (λ e. 101) A.outcome };
+
+    ghost values = { A.values };
+
+    fn put(self, out: &mut A::Place) -> u32 {
+        match self {
+            Ok(x) => x.put(out),
+            Err(NotKept) => 101,
         }
-        Kept::Absent => 100,
-        Kept::NotKept => 101,
     }
 }
