@@ -6,6 +6,8 @@ ghost use Rattle.complex.specs.Complex.{product, sum, difference, magnitude_of, 
 ghost use Rattle.laws.specs.Outcome.{Answers};
 ghost use Rattle.places.specs.Complex.{complex_of};
 
+use places::Answer;
+
 #[unsafe(no_mangle)]
 pub extern "C" fn bazintroa_sqrt(x: f64) -> f64
     ensures { result ≡ sqrt_of x }
@@ -59,14 +61,14 @@ pub extern "C" fn bazintroa_complex_magnitude_sq(z: &[f64; 2]) -> f64
 pub extern "C" fn bazintroa_complex_reciprocal(z: &[f64; 2], out: &mut [f64; 2]) -> u32
     ensures { Answers (reciprocal_of (complex_of z.now)) result out.old out.new }
 {
-    places::put_quotient(places::complex_of(z).reciprocal(), out)
+    places::complex_of(z).reciprocal().put(out)
 }
 
 #[unsafe(no_mangle)]
 pub extern "C" fn bazintroa_complex_divide(z: &[f64; 2], w: &[f64; 2], out: &mut [f64; 2]) -> u32
     ensures { Answers (quotient (complex_of z.now) (complex_of w.now)) result out.old out.new }
 {
-    places::put_quotient(places::complex_of(z).divide(places::complex_of(w)), out)
+    places::complex_of(z).divide(places::complex_of(w)).put(out)
 }
 
 #[unsafe(no_mangle)]

@@ -5,14 +5,15 @@ ghost use Rattle.nyquist.specs.Frequency.{frequency_outcome, frequency_grid};
 ghost use Rattle.root_locus.specs.Gain.{gain_outcome, gain_grid};
 ghost use Rattle.c_api.specs.Places.{Filled};
 
-use sweep::Grid;
+use sweep::FreqError;
 
-fn grid_number(grid: Grid) -> u32
+#[tactic(auto, unfolding(sweep::specs::Answer::outcome_of_grid))]
+fn grid_number(grid: Result<(), FreqError>) -> u32
     ensures { result ≡ (outcome_of_grid grid).number }
 {
     match grid {
-        Grid::Filled => 0,
-        Grid::Refused(e) => e.number(),
+        Ok(()) => 0,
+        Err(e) => e.number(),
     }
 }
 

@@ -7,7 +7,7 @@ ghost use Rattle.places.specs.Coefficients.{transfer_fn};
 ghost use Rattle.c_api.specs.Points.{PointAnswers};
 
 use root_locus::LocusPoint;
-use sweep::Check;
+use sweep::FreqError;
 
 #[unsafe(no_mangle)]
 pub extern "C" fn bazintroa_stability_region(poles: &[f64; 16], count: usize) -> bool
@@ -18,7 +18,7 @@ pub extern "C" fn bazintroa_stability_region(poles: &[f64; 16], count: usize) ->
 
 // The number of a point; gain, poles, count and the ending's kind and value go to their places.
 fn put_point(
-    point: LocusPoint,
+    point: Result<LocusPoint, FreqError>,
     gain: &mut f64,
     poles: &mut [f64; 16],
     count: &mut usize,
@@ -28,17 +28,14 @@ fn put_point(
     ensures { PointAnswers (point_of point) result gain.old gain.new poles.old poles.new count.old count.new
         ending.old ending.new ending_value.old ending_value.new }
 {
-    let check = point.check;
-    match check {
-        Check::Refused(e) => e.number(),
-        Check::Passed => {
-            let z = point.poles;
-            let end = point.ending;
+    match point {
+        Err(e) => e.number(),
+        Ok(point) => {
             *gain = point.gain;
-            places::put_poles(z, poles);
+            places::put_poles(point.poles, poles);
             *count = point.count;
-            *ending = end.number();
-            *ending_value = end.value();
+            *ending = point.ending.number();
+            *ending_value = point.ending.value();
             0
         }
     }

@@ -6,13 +6,23 @@ ghost use Rattle.laws.specs.Outcome.{Answers};
 ghost use Rattle.places.specs.Coefficients.{transfer_fn};
 ghost use Rattle.c_api.specs.Places.{loop_shaping};
 
+use places::Answer;
 use sensitivity::LoopShaping;
-use transfer_fn::TransferFn;
 
-fn loop_shaping(plant: TransferFn, controller: TransferFn) -> LoopShaping
-    ensures { result ≡ loop_shaping plant controller }
+fn loop_of(
+    plant_b: &[f64; 8],
+    plant_a: &[f64; 8],
+    plant_order: usize,
+    controller_b: &[f64; 8],
+    controller_a: &[f64; 8],
+    controller_order: usize,
+) -> LoopShaping
+    ensures { result ≡ loop_shaping (transfer_fn plant_b.now plant_a.now plant_order) (transfer_fn controller_b.now controller_a.now controller_order) }
 {
-    LoopShaping { plant, controller }
+    LoopShaping {
+        plant: places::transfer_fn(plant_b, plant_a, plant_order),
+        controller: places::transfer_fn(controller_b, controller_a, controller_order),
+    }
 }
 
 #[unsafe(no_mangle)]
@@ -26,10 +36,7 @@ pub extern "C" fn bazintroa_eval_tf_complex(
 ) -> u32
     ensures { Answers (evaluation (transfer_fn b.now a.now order) cosines.now sines.now) result out.old out.new }
 {
-    places::put_response(
-        transfer_fn::eval_tf_complex(places::transfer_fn(b, a, order), cosines, sines),
-        out,
-    )
+    transfer_fn::eval_tf_complex(places::transfer_fn(b, a, order), cosines, sines).put(out)
 }
 
 #[unsafe(no_mangle)]
@@ -48,10 +55,8 @@ pub extern "C" fn bazintroa_loop_gain_at(
         (transfer_fn controller_b.now controller_a.now controller_order))
         cosines.now sines.now) result out.old out.new }
 {
-    let plant = places::transfer_fn(plant_b, plant_a, plant_order);
-    let controller = places::transfer_fn(controller_b, controller_a, controller_order);
-    let shaping = loop_shaping(plant, controller);
-    places::put_response(shaping.loop_gain_at(cosines, sines), out)
+    let shaping = loop_of(plant_b, plant_a, plant_order, controller_b, controller_a, controller_order);
+    shaping.loop_gain_at(cosines, sines).put(out)
 }
 
 #[unsafe(no_mangle)]
@@ -70,10 +75,8 @@ pub extern "C" fn bazintroa_sensitivity_at(
         (transfer_fn controller_b.now controller_a.now controller_order))
         cosines.now sines.now) result out.old out.new }
 {
-    let plant = places::transfer_fn(plant_b, plant_a, plant_order);
-    let controller = places::transfer_fn(controller_b, controller_a, controller_order);
-    let shaping = loop_shaping(plant, controller);
-    places::put_response(shaping.sensitivity_at(cosines, sines), out)
+    let shaping = loop_of(plant_b, plant_a, plant_order, controller_b, controller_a, controller_order);
+    shaping.sensitivity_at(cosines, sines).put(out)
 }
 
 #[unsafe(no_mangle)]
@@ -92,10 +95,8 @@ pub extern "C" fn bazintroa_comp_sensitivity_at(
         (transfer_fn controller_b.now controller_a.now controller_order))
         cosines.now sines.now) result out.old out.new }
 {
-    let plant = places::transfer_fn(plant_b, plant_a, plant_order);
-    let controller = places::transfer_fn(controller_b, controller_a, controller_order);
-    let shaping = loop_shaping(plant, controller);
-    places::put_response(shaping.comp_sensitivity_at(cosines, sines), out)
+    let shaping = loop_of(plant_b, plant_a, plant_order, controller_b, controller_a, controller_order);
+    shaping.comp_sensitivity_at(cosines, sines).put(out)
 }
 
 #[unsafe(no_mangle)]
@@ -114,8 +115,6 @@ pub extern "C" fn bazintroa_control_sensitivity_at(
         (transfer_fn controller_b.now controller_a.now controller_order))
         cosines.now sines.now) result out.old out.new }
 {
-    let plant = places::transfer_fn(plant_b, plant_a, plant_order);
-    let controller = places::transfer_fn(controller_b, controller_a, controller_order);
-    let shaping = loop_shaping(plant, controller);
-    places::put_response(shaping.control_sensitivity_at(cosines, sines), out)
+    let shaping = loop_of(plant_b, plant_a, plant_order, controller_b, controller_a, controller_order);
+    shaping.control_sensitivity_at(cosines, sines).put(out)
 }

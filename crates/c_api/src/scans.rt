@@ -8,6 +8,7 @@ ghost use Rattle.nyquist.specs.Curve.{distance_outcome};
 ghost use Rattle.laws.specs.Outcome.{Answers};
 
 use bode::Reading;
+use places::Answer;
 
 #[unsafe(no_mangle)]
 pub extern "C" fn bazintroa_gain_crossover_frequency(
@@ -18,7 +19,7 @@ pub extern "C" fn bazintroa_gain_crossover_frequency(
 ) -> u32
     ensures { Answers (scanned_by bode.reading bode.gain_crossover omega.now db.now phase.now) result (out.old ∷ []) (out.new ∷ []) }
 {
-    places::put(bode::gain_crossover_frequency(omega, db, phase), out)
+    bode::gain_crossover_frequency(omega, db, phase).put(out)
 }
 
 // The same of a slice of readings.
@@ -26,7 +27,7 @@ pub extern "C" fn bazintroa_gain_crossover_frequency(
 pub extern "C" fn bazintroa_gain_crossover_readings(rs: &[Reading], out: &mut f64) -> u32
     ensures { Answers (scanned_by bode.reading bode.gain_crossover (omegas rs.now) (dbs rs.now) (phases rs.now)) result (out.old ∷ []) (out.new ∷ []) }
 {
-    places::put(bode::gain_crossover_readings(rs), out)
+    bode::gain_crossover_readings(rs).put(out)
 }
 
 #[unsafe(no_mangle)]
@@ -38,7 +39,7 @@ pub extern "C" fn bazintroa_phase_crossover_frequency(
 ) -> u32
     ensures { Answers (scanned_by bode.reading bode.phase_crossover omega.now db.now phase.now) result (out.old ∷ []) (out.new ∷ []) }
 {
-    places::put(bode::phase_crossover_frequency(omega, db, phase), out)
+    bode::phase_crossover_frequency(omega, db, phase).put(out)
 }
 
 #[unsafe(no_mangle)]
@@ -50,7 +51,7 @@ pub extern "C" fn bazintroa_gain_margin(
 ) -> u32
     ensures { Answers (scanned_by bode.reading bode.gain_margin omega.now db.now phase.now) result (out.old ∷ []) (out.new ∷ []) }
 {
-    places::put(bode::gain_margin(omega, db, phase), out)
+    bode::gain_margin(omega, db, phase).put(out)
 }
 
 #[unsafe(no_mangle)]
@@ -62,7 +63,7 @@ pub extern "C" fn bazintroa_phase_margin(
 ) -> u32
     ensures { Answers (scanned_by bode.reading bode.phase_margin omega.now db.now phase.now) result (out.old ∷ []) (out.new ∷ []) }
 {
-    places::put(bode::phase_margin(omega, db, phase), out)
+    bode::phase_margin(omega, db, phase).put(out)
 }
 
 #[unsafe(no_mangle)]
@@ -74,19 +75,19 @@ pub extern "C" fn bazintroa_sensitivity_crossover(
 ) -> u32
     ensures { Answers (scanned_by sensitivity.reading sensitivity.sensitivity_crossover omega.now s.now t.now) result (out.old ∷ []) (out.new ∷ []) }
 {
-    places::put(sensitivity::sensitivity_crossover(omega, s, t), out)
+    sensitivity::sensitivity_crossover(omega, s, t).put(out)
 }
 
 #[unsafe(no_mangle)]
 pub extern "C" fn bazintroa_bandwidth(omega: &[f64], s: &[f64], t: &[f64], out: &mut f64) -> u32
     ensures { Answers (scanned_by sensitivity.reading sensitivity.bandwidth_of omega.now s.now t.now) result (out.old ∷ []) (out.new ∷ []) }
 {
-    places::put(sensitivity::bandwidth(omega, s, t), out)
+    sensitivity::bandwidth(omega, s, t).put(out)
 }
 
 #[unsafe(no_mangle)]
 pub extern "C" fn bazintroa_distance_to_critical(re: &[f64], im: &[f64], out: &mut f64) -> u32
     ensures { Answers (distance_outcome re.now im.now) result (out.old ∷ []) (out.new ∷ []) }
 {
-    places::put(nyquist::distance_to_critical(re, im), out)
+    nyquist::distance_to_critical(re, im).put(out)
 }

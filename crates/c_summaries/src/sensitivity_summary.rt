@@ -1,16 +1,20 @@
 // Summaries of sweeps of S and T.
 ghost use Rattle.std.specs.Prelude.{◌≡◌, false, [], ◌∷◌};
-ghost use Rattle.sweep.specs.Refusal.{lists_refusal};
+ghost use Rattle.sweep.specs.Refusal.{refusal_of, lists_refusal};
+ghost use Rattle.sweep.specs.Runs.{left_by};
 ghost use Rattle.sweep.specs.Scan.{zip3};
 ghost use Rattle.sensitivity.specs.Scans.{reading};
-ghost use Rattle.sensitivity.specs.Summary.{summary_of, fed_by, join_of, number_of_fed, left_by, crossover_answer, bandwidth_answer};
+ghost use Rattle.sensitivity.specs.Summary.{summary_of, fed_by, join_of, crossover_answer, bandwidth_answer};
 ghost use Rattle.sensitivity.specs.Plain.{plain_of, from_plain};
 ghost use Rattle.laws.specs.Outcome.{Answers};
 ghost use Rattle.c_summaries.specs.Fed.{fed_sensitivity};
 
-use sensitivity::{SensitivityFed, SensitivityPlain, SensitivitySummary};
+use sensitivity::{SensitivityPlain, SensitivitySummary};
+use places::Answer;
+use sweep::FreqError;
 
-// What a feed gives: 0 and the summary with the part behind it, or the refusal and the summary as it came.
+// What a feed gives: 0 and the summary with the part behind it, or the refusal and the summary as it came. (There is one for
+// each kind: a generic struct cannot cross to C.)
 #[repr(C)]
 #[derive(Clone, Copy)]
 pub struct SensitivityPlainFed {
@@ -23,19 +27,20 @@ pub struct SensitivityPlainFed {
 pub extern "C" fn bazintroa_sensitivity_empty() -> SensitivityPlain
     ensures { result ≡ plain_of (summary_of [] false) }
 {
-    SensitivitySummary::empty().to_plain()
+    SensitivityPlain::from(SensitivitySummary::empty())
 }
 
-fn put_fed(fed: SensitivityFed, s: SensitivityPlain) -> SensitivityPlainFed
-    ensures { result ≡ fed_sensitivity (number_of_fed fed) (left_by fed (from_plain s)) s }
+#[tactic(auto, unfolding(crate::specs::Fed::fed_sensitivity, sweep::specs::Runs::left_after), using(sweep::proofs::Runs::left_refused))]
+fn put_fed(fed: Result<SensitivitySummary, FreqError>, s: SensitivityPlain) -> SensitivityPlainFed
+    ensures { result ≡ fed_sensitivity (refusal_of fed) (left_by fed (from_plain s)) s }
 {
     match fed {
-        SensitivityFed::Taken(t) => SensitivityPlainFed {
+        Ok(t) => SensitivityPlainFed {
             number: 0,
             reserved: 0,
-            summary: t.to_plain(),
+            summary: SensitivityPlain::from(t),
         },
-        SensitivityFed::Refused(e) => SensitivityPlainFed {
+        Err(e) => SensitivityPlainFed {
             number: e.number(),
             reserved: 0,
             summary: s,
@@ -43,6 +48,7 @@ fn put_fed(fed: SensitivityFed, s: SensitivityPlain) -> SensitivityPlainFed
     }
 }
 
+#[tactic(auto, unfolding(crate::specs::Fed::fed_sensitivity), using(sweep::proofs::Runs::left_once))]
 #[unsafe(no_mangle)]
 pub extern "C" fn bazintroa_sensitivity_feed(
     s: SensitivityPlain,
@@ -52,7 +58,7 @@ pub extern "C" fn bazintroa_sensitivity_feed(
 ) -> SensitivityPlainFed
     ensures { result ≡ fed_sensitivity (lists_refusal omega.now s_db.now t_db.now) (fed_by (from_plain s) (zip3 reading omega.now s_db.now t_db.now)) s }
 {
-    put_fed(SensitivitySummary::from_plain(s).feed(omega, s_db, t_db), s)
+    put_fed(SensitivitySummary::from(s).feed(omega, s_db, t_db), s)
 }
 
 #[unsafe(no_mangle)]
@@ -62,21 +68,21 @@ pub extern "C" fn bazintroa_sensitivity_join(
 ) -> SensitivityPlain
     ensures { result ≡ plain_of (join_of (from_plain s) (from_plain t)) }
 {
-    let earlier = SensitivitySummary::from_plain(s);
-    let later = SensitivitySummary::from_plain(t);
-    earlier.join(later).to_plain()
+    let earlier = SensitivitySummary::from(s);
+    let later = SensitivitySummary::from(t);
+    SensitivityPlain::from(earlier.join(later))
 }
 
 #[unsafe(no_mangle)]
 pub extern "C" fn bazintroa_sensitivity_summary_crossover(s: SensitivityPlain, out: &mut f64) -> u32
     ensures { Answers (crossover_answer (from_plain s)) result (out.old ∷ []) (out.new ∷ []) }
 {
-    places::put_crossing(SensitivitySummary::from_plain(s).crossover(), out)
+    SensitivitySummary::from(s).crossover().put(out)
 }
 
 #[unsafe(no_mangle)]
 pub extern "C" fn bazintroa_sensitivity_summary_bandwidth(s: SensitivityPlain, out: &mut f64) -> u32
     ensures { Answers (bandwidth_answer (from_plain s)) result (out.old ∷ []) (out.new ∷ []) }
 {
-    places::put_kept(SensitivitySummary::from_plain(s).bandwidth(), out)
+    SensitivitySummary::from(s).bandwidth().put(out)
 }
