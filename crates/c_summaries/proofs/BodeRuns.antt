@@ -11,10 +11,9 @@ use Rattle.sweep.specs.Scan.{Neighbours}
 use Rattle.sweep.proofs.Answers.{crossing_there, crossing_none}
 use Rattle.sweep.proofs.Runs.{left_stays, fed_lists, answered_there, ran_reached}
 use Rattle.sweep.proofs.Plain.{whole_plain}
-use Rattle.bode.specs.Bode.{gain_crosses, phase_crosses, gain_crossover, phase_crossover}
+use Rattle.bode.specs.Bode.{gain_crosses, phase_crosses, gain_crossover, phase_crossover, Gain, Phase}
 use Rattle.bode.specs.Summary.{summary_of, fed_by, join_of, gain_answer, phase_answer, Part, part_refusal, part_readings, book_of}
 use Rattle.bode.specs.Plain.{plain_of, from_plain}
-use Rattle.bode.specs.declared.Crossover.TheVariants.{Gain, Phase}
 use Rattle.bode.specs.declared.Reading.{Reading}
 use Rattle.bode.specs.declared.summary.BodePlain.{BodePlain}
 use Rattle.bode.proofs.Laws.{no_crossover_in, none_of_crossover}
