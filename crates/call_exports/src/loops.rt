@@ -17,9 +17,9 @@ fn value(rt: &impl Print) -> io::Result<()> {
     let sines = [-0.0, -1.0];
     let mut out = [lines::MARK; 2];
     let number = responses::bazintroa_eval_tf_complex(&b, &a, 1, &cosines, &sines, &mut out);
-    lines::complex(rt, b"eval_tf_complex", number, 0, out, [1.0, 2.0])?;
+    lines::list(rt, "eval_tf_complex", number, 0, &out, &[1.0, 2.0])?;
     let number = responses::bazintroa_eval_tf_complex(&b, &a, 9, &cosines, &sines, &mut out);
-    lines::complex(rt, b"eval_tf_complex, refused", number, 16, out, [1.0, 2.0])
+    lines::list(rt, "eval_tf_complex, refused", number, 16, &out, &[1.0, 2.0])
 }
 
 // There the plant of order 1, b 2, a 1 is P = 2/(1-j) = 1+j, and the controller of order 2, b (1, -1), a (0, -1) is
@@ -33,15 +33,15 @@ fn four_responses(rt: &impl Print) -> io::Result<()> {
     let y = [-0.0, -1.0, -0.0];
     let mut out = [lines::MARK; 2];
     let number = responses::bazintroa_loop_gain_at(&b, &a, 1, &d, &c, 2, &x, &y, &mut out);
-    lines::complex(rt, b"loop_gain_at", number, 0, out, [0.0, 1.0])?;
+    lines::list(rt, "loop_gain_at", number, 0, &out, &[0.0, 1.0])?;
     let number = responses::bazintroa_sensitivity_at(&b, &a, 1, &d, &c, 2, &x, &y, &mut out);
-    lines::complex(rt, b"sensitivity_at", number, 0, out, [0.5, -0.5])?;
+    lines::list(rt, "sensitivity_at", number, 0, &out, &[0.5, -0.5])?;
     let number = responses::bazintroa_comp_sensitivity_at(&b, &a, 1, &d, &c, 2, &x, &y, &mut out);
-    lines::complex(rt, b"comp_sensitivity_at", number, 0, out, [0.5, 0.5])?;
+    lines::list(rt, "comp_sensitivity_at", number, 0, &out, &[0.5, 0.5])?;
     let number = responses::bazintroa_control_sensitivity_at(
         &b, &a, 1, &d, &c, 2, &x, &y, &mut out,
     );
-    lines::complex(rt, b"control_sensitivity_at", number, 0, out, [0.5, 0.0])
+    lines::list(rt, "control_sensitivity_at", number, 0, &out, &[0.5, 0.0])
 }
 
 // Poles (0.5,0.5) and (1,0): the first alone is stable.
@@ -52,7 +52,7 @@ fn stability(rt: &impl Print) -> io::Result<()> {
     parts[2] = 1.0;
     let one = locus::bazintroa_stability_region(&parts, 1);
     let two = locus::bazintroa_stability_region(&parts, 2);
-    lines::verdict(rt, b"stability_region", one & !two)
+    lines::verdict(rt, "stability_region", one & !two)
 }
 
 // Order 2, b (0, 1), a (-4, 5), point 4 of 9 up to gain 4: at gain 2 the polynomial 1, -2, 5 has the poles 1+2j, 1-2j.
@@ -83,10 +83,10 @@ fn point(rt: &impl Print) -> io::Result<()> {
     expected[1] = 2.0;
     expected[2] = 1.0;
     expected[3] = -2.0;
-    lines::poles(rt, b"locus_point", number, 0, parts, expected)?;
-    lines::real(rt, b"locus_point, its gain", 0, 0, gain, 2.0)?;
-    lines::verdict(rt, b"locus_point, its count", count == 2)?;
-    lines::real(rt, b"locus_point, its ending", ending, 0, rounds, 0.0)?;
+    lines::list(rt, "locus_point", number, 0, &parts, &expected)?;
+    lines::real(rt, "locus_point, its gain", 0, 0, gain, 2.0)?;
+    lines::verdict(rt, "locus_point, its count", count == 2)?;
+    lines::real(rt, "locus_point, its ending", ending, 0, rounds, 0.0)?;
     ending = 9;
     rounds = lines::MARK;
     let number = locus::bazintroa_locus_point(
@@ -102,15 +102,15 @@ fn point(rt: &impl Print) -> io::Result<()> {
         &mut ending,
         &mut rounds,
     );
-    lines::poles(rt, b"locus_point, refused", number, 17, parts, expected)?;
+    lines::list(rt, "locus_point, refused", number, 17, &parts, &expected)?;
     lines::verdict(
         rt,
-        b"locus_point, refused, its gain and count",
+        "locus_point, refused, its gain and count",
         (gain == 2.0) & (count == 2),
     )?;
     lines::real(
         rt,
-        b"locus_point, refused, its ending",
+        "locus_point, refused, its ending",
         ending,
         9,
         rounds,
@@ -121,7 +121,7 @@ fn point(rt: &impl Print) -> io::Result<()> {
 // A line on the ending at gain 0, where the polynomial is 1 and these coefficients.
 fn ending(
     rt: &impl Print,
-    name: &[u8],
+    name: &str,
     a: [f64; 8],
     order: usize,
     kind: u32,
@@ -158,10 +158,10 @@ fn ending(
 fn endings(rt: &impl Print) -> io::Result<()> {
     let fourth = [0.0, 0.0, 0.0, -1.0, 9.0, 9.0, 9.0, 9.0];
     let nan = 0.0 / 0.0;
-    ending(rt, b"locus_point, settled", fourth, 4, 0, 1.0)?;
-    ending(rt, b"locus_point, broken", two(nan, 9.0), 1, 2, 0.0)?;
+    ending(rt, "locus_point, settled", fourth, 4, 0, 1.0)?;
+    ending(rt, "locus_point, broken", two(nan, 9.0), 1, 2, 0.0)?;
     let fourth = [0.0, 0.0, 0.0, nan, 9.0, 9.0, 9.0, 9.0];
-    ending(rt, b"locus_point, broken in its search", fourth, 4, 2, 0.0)
+    ending(rt, "locus_point, broken in its search", fourth, 4, 2, 0.0)
 }
 
 pub(crate) fn run(rt: &impl Print) -> io::Result<()> {

@@ -3,12 +3,6 @@ use super::lines;
 use std::io;
 use std::io::Print;
 
-fn same(x: [u8; 9], y: [u8; 9]) -> bool {
-    let early = (x[0] == y[0]) & (x[1] == y[1]) & (x[2] == y[2]) & (x[3] == y[3]);
-    let late = (x[4] == y[4]) & (x[5] == y[5]) & (x[6] == y[6]) & (x[7] == y[7]);
-    early & late & (x[8] == y[8])
-}
-
 // ω, dB and phase 1, 6, -90 are 3FF0.., 4018.., C0568..; then 2, 2, -120: 4000.., 4000.., C05E..; 4, -2, -160: 4010..,
 // C000.., C064..; 8, -10, -200: 4020.., C024.., C069... The crossovers 3 and 6 are 4008.. and 4018...
 pub(crate) fn run(rt: &impl Print) -> io::Result<()> {
@@ -18,9 +12,9 @@ pub(crate) fn run(rt: &impl Print) -> io::Result<()> {
         \0\0\0\0\0\0\x20\x40\0\0\0\0\0\0\x24\xc0\0\0\0\0\0\0\x69\xc0";
     let mut answer = *b"123456789";
     let number = panel::bazintroa_panel_gain_crossover(sweep, &mut answer);
-    let right = same(answer, *b"\0\0\0\0\0\0\x08\x409");
-    lines::verdict(rt, b"panel_gain_crossover", (number == 0) & right)?;
+    let right = answer == *b"\0\0\0\0\0\0\x08\x409";
+    lines::verdict(rt, "panel_gain_crossover", (number == 0) & right)?;
     let number = panel::bazintroa_panel_phase_crossover(sweep, &mut answer);
-    let right = same(answer, *b"\0\0\0\0\0\0\x18\x409");
-    lines::verdict(rt, b"panel_phase_crossover", (number == 0) & right)
+    let right = answer == *b"\0\0\0\0\0\0\x18\x409";
+    lines::verdict(rt, "panel_phase_crossover", (number == 0) & right)
 }

@@ -10,7 +10,7 @@ fn bode_summaries(rt: &impl Print) -> io::Result<()> {
     let mut out = lines::MARK;
     let empty = bode_summary::bazintroa_bode_empty();
     let number = bode_summary::bazintroa_bode_gain_crossover(empty, &mut out);
-    lines::real(rt, b"bode_empty", number, 100, out, lines::MARK)?;
+    lines::real(rt, "bode_empty", number, 100, out, lines::MARK)?;
     let early = bode_summary::bazintroa_bode_feed(
         empty,
         &[1.0, 2.0],
@@ -27,15 +27,15 @@ fn bode_summaries(rt: &impl Print) -> io::Result<()> {
     let refused = bode_summary::bazintroa_bode_feed(whole, &[1.0], &[1.0], &[]);
     lines::verdict(
         rt,
-        b"bode_feed",
+        "bode_feed",
         (late.number == 0) & (refused.number == 11),
     )?;
     let number = bode_summary::bazintroa_bode_phase_crossover(late.summary, &mut out);
-    lines::real(rt, b"bode_phase_crossover", number, 0, out, 6.0)?;
+    lines::real(rt, "bode_phase_crossover", number, 0, out, 6.0)?;
     let number = bode_summary::bazintroa_bode_gain_crossover(whole, &mut out);
-    lines::real(rt, b"bode_join", number, 0, out, 3.0)?;
+    lines::real(rt, "bode_join", number, 0, out, 3.0)?;
     let number = bode_summary::bazintroa_bode_gain_crossover(refused.summary, &mut out);
-    lines::real(rt, b"bode_gain_crossover", number, 0, out, 3.0)
+    lines::real(rt, "bode_gain_crossover", number, 0, out, 3.0)
 }
 
 // ω 1, 2, 4; S -20, -10, 5; T 0, -1, -5: bandwidth 3.
@@ -43,7 +43,7 @@ fn bandwidths(rt: &impl Print) -> io::Result<()> {
     let mut out = lines::MARK;
     let empty = sensitivity_summary::bazintroa_sensitivity_empty();
     let number = sensitivity_summary::bazintroa_sensitivity_summary_bandwidth(empty, &mut out);
-    lines::real(rt, b"sensitivity_empty", number, 100, out, lines::MARK)?;
+    lines::real(rt, "sensitivity_empty", number, 100, out, lines::MARK)?;
     let early = sensitivity_summary::bazintroa_sensitivity_feed(
         empty,
         &[1.0, 2.0],
@@ -64,14 +64,14 @@ fn bandwidths(rt: &impl Print) -> io::Result<()> {
     );
     lines::verdict(
         rt,
-        b"sensitivity_feed",
+        "sensitivity_feed",
         (whole.number == 0) & (refused.number == 11),
     )?;
     let number = sensitivity_summary::bazintroa_sensitivity_summary_bandwidth(
         refused.summary,
         &mut out,
     );
-    lines::real(rt, b"sensitivity_summary_bandwidth", number, 0, out, 3.0)
+    lines::real(rt, "sensitivity_summary_bandwidth", number, 0, out, 3.0)
 }
 
 // S - T -2, 2, -2 at 1, 3, 7: equal at 2, and at 5 too, so that the order of the parts is seen. A join keeps no
@@ -88,29 +88,29 @@ fn crossovers(rt: &impl Print) -> io::Result<()> {
     );
     let whole = sensitivity_summary::bazintroa_sensitivity_join(early.summary, late.summary);
     let number = sensitivity_summary::bazintroa_sensitivity_summary_bandwidth(whole, &mut out);
-    lines::real(rt, b"sensitivity_join", number, 101, out, lines::MARK)?;
+    lines::real(rt, "sensitivity_join", number, 101, out, lines::MARK)?;
     let number = sensitivity_summary::bazintroa_sensitivity_summary_crossover(whole, &mut out);
-    lines::real(rt, b"sensitivity_summary_crossover", number, 0, out, 2.0)
+    lines::real(rt, "sensitivity_summary_crossover", number, 0, out, 2.0)
 }
 
 // Of (0,0) and (-1,0.5) the second is 0.5 from -1; no point: 0.
 fn curve_summaries(rt: &impl Print) -> io::Result<()> {
     let empty = curve_summary::bazintroa_curve_empty();
     let nothing = curve_summary::bazintroa_curve_closest_approach(empty);
-    lines::real(rt, b"curve_empty", 0, 0, nothing, 0.0)?;
+    lines::real(rt, "curve_empty", 0, 0, nothing, 0.0)?;
     let early = curve_summary::bazintroa_curve_feed(empty, &[0.0], &[0.0]);
     let late = curve_summary::bazintroa_curve_feed(empty, &[-1.0], &[0.5]);
     let refused = curve_summary::bazintroa_curve_feed(late.summary, &[-1.0], &[]);
     lines::verdict(
         rt,
-        b"curve_feed",
+        "curve_feed",
         (late.number == 0) & (refused.number == 11),
     )?;
     let nearest = curve_summary::bazintroa_curve_closest_approach(refused.summary);
-    lines::real(rt, b"curve_closest_approach", 0, 0, nearest, 0.5)?;
+    lines::real(rt, "curve_closest_approach", 0, 0, nearest, 0.5)?;
     let whole = curve_summary::bazintroa_curve_join(early.summary, late.summary);
     let nearest = curve_summary::bazintroa_curve_closest_approach(whole);
-    lines::real(rt, b"curve_join", 0, 0, nearest, 0.5)
+    lines::real(rt, "curve_join", 0, 0, nearest, 0.5)
 }
 
 pub(crate) fn run(rt: &impl Print) -> io::Result<()> {

@@ -10,16 +10,16 @@ fn both_grids(rt: &impl Print) -> io::Result<()> {
     let mut list = [lines::MARK; 6];
     let number = grids::bazintroa_fill_gain_grid(8.0, 5, &mut list);
     let expected = [0.0, 2.0, 4.0, 6.0, 8.0, lines::MARK];
-    lines::list(rt, b"fill_gain_grid", number, 0, &list, &expected)?;
+    lines::list(rt, "fill_gain_grid", number, 0, &list, &expected)?;
     let number = grids::bazintroa_fill_frequency_grid(4.0, 5, &mut list);
     let expected = [0.0, 1.0, 2.0, 3.0, 4.0, lines::MARK];
-    lines::list(rt, b"fill_frequency_grid", number, 0, &list, &expected)?;
+    lines::list(rt, "fill_frequency_grid", number, 0, &list, &expected)?;
     let number = grids::bazintroa_fill_gain_grid(8.0, 1, &mut list);
-    lines::list(rt, b"fill_gain_grid, refused", number, 1, &list, &expected)?;
+    lines::list(rt, "fill_gain_grid, refused", number, 1, &list, &expected)?;
     let number = grids::bazintroa_fill_frequency_grid(4.0, 1, &mut list);
     lines::list(
         rt,
-        b"fill_frequency_grid, refused",
+        "fill_frequency_grid, refused",
         number,
         1,
         &list,
@@ -34,17 +34,17 @@ fn bode(rt: &impl Print) -> io::Result<()> {
     let phase = [-90.0, -120.0, -160.0, -200.0];
     let mut out = lines::MARK;
     let number = scans::bazintroa_gain_crossover_frequency(&omega, &db, &phase, &mut out);
-    lines::real(rt, b"gain_crossover_frequency", number, 0, out, 3.0)?;
+    lines::real(rt, "gain_crossover_frequency", number, 0, out, 3.0)?;
     let number = scans::bazintroa_phase_crossover_frequency(&omega, &db, &phase, &mut out);
-    lines::real(rt, b"phase_crossover_frequency", number, 0, out, 6.0)?;
+    lines::real(rt, "phase_crossover_frequency", number, 0, out, 6.0)?;
     let number = scans::bazintroa_phase_margin(&omega, &db, &phase, &mut out);
-    lines::real(rt, b"phase_margin", number, 0, out, 40.0)?;
+    lines::real(rt, "phase_margin", number, 0, out, 40.0)?;
     let number = scans::bazintroa_gain_margin(&omega, &db, &phase, &mut out);
-    lines::real(rt, b"gain_margin", number, 0, out, 6.0)?;
+    lines::real(rt, "gain_margin", number, 0, out, 6.0)?;
     let number = scans::bazintroa_gain_margin(&omega, &db, &[-90.0], &mut out);
-    lines::real(rt, b"gain_margin, refused", number, 11, out, 6.0)?;
+    lines::real(rt, "gain_margin, refused", number, 11, out, 6.0)?;
     let number = scans::bazintroa_gain_crossover_frequency(&[1.0], &[6.0], &[-90.0], &mut out);
-    lines::real(rt, b"gain_crossover_frequency, none", number, 100, out, 6.0)
+    lines::real(rt, "gain_crossover_frequency, none", number, 100, out, 6.0)
 }
 
 // T 0, -1, -5 at 1, 2, 4: bandwidth 3. S - T -2, 2 at 1, 3: they are equal at 2.
@@ -54,12 +54,12 @@ fn sensitivity(rt: &impl Print) -> io::Result<()> {
     let t = [0.0, -1.0, -5.0];
     let mut out = lines::MARK;
     let number = scans::bazintroa_bandwidth(&omega, &s, &t, &mut out);
-    lines::real(rt, b"bandwidth", number, 0, out, 3.0)?;
+    lines::real(rt, "bandwidth", number, 0, out, 3.0)?;
     let omega = [1.0, 3.0];
     let s = [-1.0, 4.0];
     let t = [1.0, 2.0];
     let number = scans::bazintroa_sensitivity_crossover(&omega, &s, &t, &mut out);
-    lines::real(rt, b"sensitivity_crossover", number, 0, out, 2.0)
+    lines::real(rt, "sensitivity_crossover", number, 0, out, 2.0)
 }
 
 // Of (0,0) and (-1,0.5) the second is 0.5 from -1.
@@ -68,7 +68,7 @@ fn curve(rt: &impl Print) -> io::Result<()> {
     let im = [0.0, 0.5];
     let mut out = lines::MARK;
     let number = scans::bazintroa_distance_to_critical(&re, &im, &mut out);
-    lines::real(rt, b"distance_to_critical", number, 0, out, 0.5)
+    lines::real(rt, "distance_to_critical", number, 0, out, 0.5)
 }
 
 pub(crate) fn run(rt: &impl Print) -> io::Result<()> {
