@@ -1,16 +1,14 @@
 -- Feeding and joining summaries of lists: one law each, from which the others follow. A part that is fed, or a summary that is joined, leaves the summary of
 -- the one list behind the other; so it does not matter where a sweep is cut, nor in which bracketing the parts are joined. Assumes nothing.
-use Prim.Native.Nat.{◌-◌}
 use mathlib.Core.Path.{◌≡◌, refl, sym, ◌∙◌, ap}
-use mathlib.Core.Bool.{Bool, true, false, ◌&&◌}
+use mathlib.Core.Bool.{Bool, true, false}
 use mathlib.Core.List.{List, [], ◌∷◌, ◌++◌}
 use lib.Ieee.{Float}
-use Rattle.std.specs.Prelude.{Option, Some, None, Result, Ok, Err}
+use Rattle.std.specs.Prelude.{Option, Some, None, Ok, Err}
 use Rattle.sweep.specs.Answer.{crossing_outcome, kept_outcome, or_kept}
 use Rattle.sweep.specs.Ends.{ends_of, crossing_between}
 use Rattle.sweep.specs.Runs.{Cuts, list_of, joined_up}
 use Rattle.sweep.specs.Scan.{or_else, first_pair}
-use Rattle.sweep.specs.declared.NotKept.{NotKept}
 use Rattle.sweep.proofs.Scans.{or_else_assoc, kept_or, some_append, first_behind, last_behind, crossing_behind}
 use Rattle.sweep.proofs.Runs.{join_assoc, neutral_before, neutral_behind, fed_uncut, joined_uncut}
 use Rattle.sensitivity.specs.Scans.{zero_reading, equal_pair, drop_pair, level_of, sensitivity_crossover, bandwidth_of}

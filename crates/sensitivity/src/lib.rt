@@ -4,7 +4,7 @@
 
 mod summary;
 
-ghost use Rattle.std.specs.Prelude.{◌≡◌, ◌-◌};
+ghost use Rattle.std.specs.Prelude.{◌≡◌};
 ghost use Rattle.sweep.specs.Answer as answer;
 ghost use Rattle.sweep.specs.Scan.{scanned_by};
 ghost use Rattle.transfer_fn.specs.Evaluation.{outcome_of};
@@ -61,31 +61,39 @@ fn control_sensitivity_of(p: Complex, c: Complex) -> Complex
     c.divide_or_zero(one_plus_l)
 }
 
-#[tactic(auto, using(crate::proofs::Responses::both_refused, crate::proofs::Responses::both_found))]
 impl LoopShaping {
+    // What `of` makes of the plant's and the controller's values.
+    #[tactic(auto, using(crate::proofs::Responses::both_refused, crate::proofs::Responses::both_found))]
+    fn response<F: Fn(Complex, Complex) -> Complex>(
+        self,
+        cosines: &[f64],
+        sines: &[f64],
+        of: F,
+    ) -> Result<Complex, FreqError>
+        requires { F.IsAlwaysCallable of }
+        ensures { (f : Complex → Complex → Complex) → ((p c r : Complex) → F.post of p c r → r ≡ f p c)
+            → outcome_of result ≡ response_by f self cosines.now sines.now }
+    {
+        let (p, c) = transfer_fn::eval_both(self.plant, self.controller, cosines, sines)?;
+        Ok(of(p, c))
+    }
+
     pub fn loop_gain_at(self, cosines: &[f64], sines: &[f64]) -> Result<Complex, FreqError>
         ensures { outcome_of result ≡ response_by loop_gain self cosines.now sines.now }
     {
-        let (p, c) = transfer_fn::eval_both(self.plant, self.controller, cosines, sines)?;
-        Ok(loop_gain(p, c))
+        self.response(cosines, sines, loop_gain)
     }
 
     pub fn sensitivity_at(self, cosines: &[f64], sines: &[f64]) -> Result<Complex, FreqError>
         ensures { outcome_of result ≡ response_by sensitivity self cosines.now sines.now }
     {
-        let (p, c) = transfer_fn::eval_both(self.plant, self.controller, cosines, sines)?;
-        Ok(sensitivity_of(p, c))
+        self.response(cosines, sines, sensitivity_of)
     }
 
-    pub fn comp_sensitivity_at(
-        self,
-        cosines: &[f64],
-        sines: &[f64],
-    ) -> Result<Complex, FreqError>
+    pub fn comp_sensitivity_at(self, cosines: &[f64], sines: &[f64]) -> Result<Complex, FreqError>
         ensures { outcome_of result ≡ response_by comp_sensitivity self cosines.now sines.now }
     {
-        let (p, c) = transfer_fn::eval_both(self.plant, self.controller, cosines, sines)?;
-        Ok(comp_sensitivity_of(p, c))
+        self.response(cosines, sines, comp_sensitivity_of)
     }
 
     pub fn control_sensitivity_at(
@@ -95,8 +103,7 @@ impl LoopShaping {
     ) -> Result<Complex, FreqError>
         ensures { outcome_of result ≡ response_by control_sensitivity self cosines.now sines.now }
     {
-        let (p, c) = transfer_fn::eval_both(self.plant, self.controller, cosines, sines)?;
-        Ok(control_sensitivity_of(p, c))
+        self.response(cosines, sines, control_sensitivity_of)
     }
 }
 
@@ -144,9 +151,10 @@ impl sweep::Crossing<Reading> for Equal {
 
     fn pair(&self, a: Reading, b: Reading) -> Option<f64> {
         if sweep::crosses_zero(difference(a), difference(b)) {
-            return Some(equal_between(a, b));
+            Some(equal_between(a, b))
+        } else {
+            None
         }
-        None
     }
 }
 
@@ -162,9 +170,7 @@ fn level_by(first: Reading) -> f64
 fn drop_between(level: f64, a: Reading, b: Reading) -> f64
     ensures { result ≡ drop_between level a b }
 {
-    let m0 = a.t;
-    let m1 = b.t;
-    sweep::interpolate(a.omega, b.omega, level - m0, m1 - m0)
+    sweep::interpolate(a.omega, b.omega, level - a.t, b.t - a.t)
 }
 
 // The drop of T below a level.
@@ -179,19 +185,16 @@ impl sweep::Crossing<Reading> for LevelDrop {
 
     fn pair(&self, a: Reading, b: Reading) -> Option<f64> {
         if sweep::drops_below(self.level, a.t, b.t) {
-            return Some(drop_between(self.level, a, b));
+            Some(drop_between(self.level, a, b))
+        } else {
+            None
         }
-        None
     }
 }
 
 // The frequency where |S| and |T| are first equal.
 #[tactic(auto, unfolding(crate::specs::Scans::sensitivity_crossover, sweep::specs::Scan::scanned_by), using(sweep::proofs::Answers::scan_turned_away, sweep::proofs::Answers::scan_let_through))]
-pub fn sensitivity_crossover(
-    omega: &[f64],
-    s: &[f64],
-    t: &[f64],
-) -> Result<Option<f64>, FreqError>
+pub fn sensitivity_crossover(omega: &[f64], s: &[f64], t: &[f64]) -> Result<Option<f64>, FreqError>
     ensures { answer.outcome_of result ≡ scanned_by reading sensitivity_crossover omega.now s.now t.now }
 {
     let sweep = Lists::new(omega, s, t)?;

@@ -91,12 +91,7 @@ impl SensitivitySummary {
 
     // The summary with a part's readings behind it, or the refusal; the caller then still has the summary as it came.
     #[tactic(auto, unfolding(sweep::specs::Runs::left_after))]
-    pub fn feed(
-        self,
-        omega: &[f64],
-        s: &[f64],
-        t: &[f64],
-    ) -> Result<SensitivitySummary, FreqError>
+    pub fn feed(self, omega: &[f64], s: &[f64], t: &[f64]) -> Result<SensitivitySummary, FreqError>
         ensures { (refusal_of result ≡ lists_refusal omega.now s.now t.now)
             × (left_by result self ≡ left_after (lists_refusal omega.now s.now t.now) self
             (fed_by self (zip3 reading omega.now s.now t.now))) }
