@@ -1,18 +1,15 @@
 -- Feeding and joining summaries of lists: one law each, from which the others follow. A part that is fed, or a summary that is joined, leaves the summary of
 -- the one list behind the other; so it does not matter where a sweep is cut, nor in which bracketing the parts are joined. Assumes nothing.
-use Prim.Native.Nat.{◌-◌}
 use mathlib.Core.Path.{◌≡◌, refl, sym, ◌∙◌, ap}
-use mathlib.Core.Bool.{Bool, true, false, ◌&&◌}
+use mathlib.Core.Bool.{Bool, true, false}
 use mathlib.Core.List.{List, [], ◌∷◌, ◌++◌}
-use lib.ListN.{length, get_or}
 use lib.Ieee.{Float}
-use Rattle.sweep.specs.Answer.{crossing_outcome, kept_outcome, kept_of, or_kept}
+use Rattle.std.specs.Prelude.{Option, Some, None, Ok, Err}
+use Rattle.sweep.specs.Answer.{crossing_outcome, kept_outcome, or_kept}
+use Rattle.sweep.specs.Ends.{ends_of, crossing_between}
 use Rattle.sweep.specs.Runs.{Cuts, list_of, joined_up}
-use Rattle.sweep.specs.Scan.{or_else, first_pair, not_empty, crossing_at}
-use Rattle.sweep.specs.declared.Crossing.{Crossing}
-use Rattle.sweep.specs.declared.Crossing.TheVariants.{At, Missing}
-use Rattle.sweep.specs.declared.Kept.TheVariants.{NotKept}
-use Rattle.sweep.proofs.Scans.{or_else_assoc, kept_outcome_lem, kept_or, some_append, first_behind, last_behind, crossing_behind}
+use Rattle.sweep.specs.Scan.{or_else, first_pair}
+use Rattle.sweep.proofs.Scans.{or_else_assoc, kept_or, some_append, first_behind, last_behind, crossing_behind}
 use Rattle.sweep.proofs.Runs.{join_assoc, neutral_before, neutral_behind, fed_uncut, joined_uncut}
 use Rattle.sensitivity.specs.Scans.{zero_reading, equal_pair, drop_pair, level_of, sensitivity_crossover, bandwidth_of}
 use Rattle.sensitivity.specs.Summary.{bandwidth_under, summary_of, join_of, drop_behind, fed_by, crossover_answer, bandwidth_answer, bandwidth_outcome}
@@ -27,14 +24,14 @@ unfolding bandwidth_of level_of
 same_level [] k = refl
 same_level (x ∷ l) k = refl
 
-kept_append : (l k : List Reading) (m : Bool) → or_kept (kept_of (bandwidth_of l)) (drop_behind (level_of (l ++ k)) (summary_of l m) k) ≡ kept_of (bandwidth_of (l ++ k))
+kept_append : (l k : List Reading) (m : Bool) → or_kept (Ok (bandwidth_of l)) (drop_behind (level_of (l ++ k)) (summary_of l m) k) ≡ Ok (bandwidth_of (l ++ k))
 unfolding drop_behind summary_of
 kept_append l k m =
     let p = drop_pair (level_of (l ++ k)) in
-    let cut = crossing_at p (not_empty l && not_empty k) (get_or l (length l - 1) zero_reading) (get_or k 0 zero_reading) in
+    let cut = crossing_between p (ends_of zero_reading l) (ends_of zero_reading k) in
     let whole : first_pair p (l ++ k) ≡ bandwidth_of (l ++ k) = unfold bandwidth_of in refl in
     kept_or (bandwidth_of l) (or_else cut (first_pair p k))
-    ∙ ap kept_of (ap (λ (a : Crossing). or_else a (or_else cut (first_pair p k))) (same_level l k) ∙ sym (or_else_assoc (first_pair p l) cut (first_pair p k)) ∙ crossing_behind zero_reading p l k ∙ whole)
+    ∙ ap Ok (ap (λ (a : Option Float). or_else a (or_else cut (first_pair p k))) (same_level l k) ∙ sym (or_else_assoc (first_pair p l) cut (first_pair p k)) ∙ crossing_behind zero_reading p l k ∙ whole)
 
 bandwidth_append : (l : List Reading) (m : Bool) (k : List Reading)
     → or_kept (bandwidth_under m l) (drop_behind (level_of (l ++ k)) (summary_of l m) k) ≡ bandwidth_under m (l ++ k)
@@ -48,11 +45,13 @@ pub join_append : (l : List Reading) (m : Bool) (k : List Reading) (n : Bool) �
 unfolding join_of summary_of sensitivity_crossover bandwidth_under
 join_append l m k n =
     λ i. record {
-      read = some_append l k i;
-      first = first_behind zero_reading l k i;
-      last = last_behind zero_reading l k i;
+      ends = record {
+        read = some_append l k i;
+        first = first_behind zero_reading l k i;
+        last = last_behind zero_reading l k i;
+      };
       crossover = crossing_behind zero_reading equal_pair l k i;
-      bandwidth = NotKept;
+      bandwidth = Err (record {});
     }
 
 -- what a feed takes over from a join is that of the whole list, and so is the level
@@ -61,9 +60,7 @@ unfolding fed_by summary_of level_of
 fed_append l m k =
     rw (join_append l m k false)
     (λ i. record {
-      read = not_empty (l ++ k);
-      first = get_or (l ++ k) 0 zero_reading;
-      last = get_or (l ++ k) (length (l ++ k) - 1) zero_reading;
+      ends = ends_of zero_reading (l ++ k);
       crossover = sensitivity_crossover (l ++ k);
       bandwidth = bandwidth_append l m k i;
     })
@@ -77,7 +74,7 @@ crossover_answer_lem l m = refl
 pub bandwidth_answer_lem : (l : List Reading) (m : Bool) → bandwidth_answer (summary_of l m) ≡ bandwidth_outcome m l
 unfolding bandwidth_answer summary_of bandwidth_under bandwidth_outcome
 bandwidth_answer_lem l true = unfold kept_outcome in refl
-bandwidth_answer_lem l false = kept_outcome_lem (bandwidth_of l)
+bandwidth_answer_lem l false = unfold kept_outcome in refl
 
 blind_crossover : (l : List Reading) (m n : Bool) → crossover_answer (summary_of l m) ≡ crossover_answer (summary_of l n)
 unfolding crossover_answer summary_of
@@ -85,19 +82,19 @@ blind_crossover l m n = refl
 
 -- ---- of any two summaries, those too that no call made: what has no readings has no part in the ends, and a crossing that is there stays
 module _ (s t : SensitivitySummary) where
-  pub first_of_later : s.read ≡ false → (join_of s t).first ≡ t.first
+  pub first_of_later : s.ends.read ≡ false → (join_of s t).ends.first ≡ t.ends.first
   unfolding join_of
   first_of_later h = rw h
 
-  pub last_of_earlier : t.read ≡ false → (join_of s t).last ≡ s.last
+  pub last_of_earlier : t.ends.read ≡ false → (join_of s t).ends.last ≡ s.ends.last
   unfolding join_of
   last_of_earlier h = rw h
 
-  pub crossover_stays : {w : Float} → s.crossover ≡ At w → (join_of s t).crossover ≡ At w
+  pub crossover_stays : {w : Float} → s.crossover ≡ Some w → (join_of s t).crossover ≡ Some w
   unfolding join_of
   crossover_stays h = rw h
 
-  pub crossover_of_later : s.read ≡ false → s.crossover ≡ Missing → (join_of s t).crossover ≡ t.crossover
+  pub crossover_of_later : s.ends.read ≡ false → s.crossover ≡ None → (join_of s t).crossover ≡ t.crossover
   unfolding join_of
   crossover_of_later h e = rw (h, e)
 

@@ -1,3 +1,4 @@
+pub mod Responses
 pub mod Laws
 pub mod Joins
 pub mod Runs

@@ -10,19 +10,19 @@ use Prim.Native.Nat.{ℕ}
 use mathlib.Core.Path.{◌≡◌, refl, sym, ap, ◌∙◌}
 use mathlib.Core.Bool.{true, false}
 use mathlib.Core.List.{[], ◌∷◌}
+use Rattle.std.specs.Prelude.{Option, Result, Float}
 use Rattle.laws.specs.Outcome.{Outcome, none}
 use Rattle.sweep.specs.Answer.{crossing_outcome, kept_outcome, not_kept}
-use Rattle.sweep.specs.Runs.{Calls, mark, Reached, left_after, run_of, Returned, FedLists}
+use Rattle.sweep.specs.Refusal.{refusal_of}
+use Rattle.sweep.specs.Runs.{Calls, mark, Reached, left_after, left_by, run_of, Returned, FedLists}
 use Rattle.sweep.specs.Scan.{Neighbours}
-use Rattle.sweep.specs.declared.Crossing.{Crossing}
-use Rattle.sweep.specs.declared.Kept.{Kept}
+use Rattle.sweep.specs.declared.NotKept.{NotKept}
 use Rattle.sweep.proofs.Conditions.{lists_checked}
 use Rattle.sweep.proofs.Runs.{whole, left_stays, result_says, fed_lists, ran_reached}
 use Rattle.sensitivity.specs.Scans.{equal_crosses, sensitivity_crossover, level_of, drops, bandwidth_of}
-use Rattle.sensitivity.specs.Summary.{summary_of, fed_by, join_of, number_of_fed, left_by, crossover_answer, bandwidth_answer, bandwidth_outcome, Part, part_refusal, part_readings, book_of}
+use Rattle.sensitivity.specs.Summary.{summary_of, fed_by, join_of, crossover_answer, bandwidth_answer, bandwidth_outcome, Part, part_refusal, part_readings, book_of}
 use Rattle.sensitivity.specs.declared.Reading.{Reading}
 use Rattle.sensitivity.specs.declared.summary.SensitivitySummary.{SensitivitySummary}
-use Rattle.sensitivity.specs.declared.summary.SensitivityFed.TheVariants.{Taken, Refused}
 use Rattle.sensitivity.proofs.Laws.{no_crossover_in, none_of_crossover, no_bandwidth_in, none_of_bandwidth, under_mark, without_mark, only_under_mark, none_unmarked}
 use Rattle.sensitivity.proofs.Joins.{fed_append, join_append, crossover_answer_lem, bandwidth_answer_lem}
 use Rattle.sensitivity.proofs.summary.SensitivitySummary.empty.Reads as empty_reads
@@ -46,11 +46,11 @@ abbrev pub JoinedBy : SensitivitySummary → SensitivitySummary → SensitivityS
 JoinedBy s t u = Returned join_reads.Learnt (s, (t, tt)) u
 
 -- r is what a call of `crossover` on s returned
-abbrev pub CrossoverOf : SensitivitySummary → Crossing → Type 0
+abbrev pub CrossoverOf : SensitivitySummary → Option Float → Type 0
 CrossoverOf s r = Returned crossover_reads.Learnt (s, tt) r
 
 -- r is what a call of `bandwidth` on s returned
-abbrev pub BandwidthOf : SensitivitySummary → Kept → Type 0
+abbrev pub BandwidthOf : SensitivitySummary → Result (Option Float) NotKept → Type 0
 BandwidthOf s r = Returned bandwidth_reads.Learnt (s, tt) r
 
 -- s is a summary that the list of calls may leave
@@ -63,17 +63,17 @@ Reaches = Reached Made FedBy JoinedBy
 -- under the mark, and else what its scan is defined to give. Each is "none" exactly when no two neighbours of that list cross, whichever parts brought them.
 -- A feed's number is what its conditions give over the book; where that is not 0, the caller has the summary as it was.
 pub record Claim (c : Calls Part) (s : SensitivitySummary) : Type 0 where
-  pub crossover_there : (r : Crossing) × CrossoverOf s r
-  pub bandwidth_there : (r : Kept) × BandwidthOf s r
-  pub crossover : (r : Crossing) → CrossoverOf s r → crossing_outcome r ≡ crossing_outcome (sensitivity_crossover (book_of c))
-  pub no_crossover : (r : Crossing) → CrossoverOf s r → crossing_outcome r ≡ none → (x y : Reading) → Neighbours (book_of c) x y → equal_crosses x y ≡ false
-  pub crossover_none : (r : Crossing) → CrossoverOf s r → ((x y : Reading) → Neighbours (book_of c) x y → equal_crosses x y ≡ false) → crossing_outcome r ≡ none
-  pub bandwidth : (r : Kept) → BandwidthOf s r → mark c ≡ false → kept_outcome r ≡ crossing_outcome (bandwidth_of (book_of c))
-  pub bandwidth_marked : (r : Kept) → BandwidthOf s r → mark c ≡ true → kept_outcome r ≡ not_kept
-  pub only_marked : (r : Kept) → BandwidthOf s r → kept_outcome r ≡ not_kept → mark c ≡ true
-  pub no_bandwidth : (r : Kept) → BandwidthOf s r → kept_outcome r ≡ none → (x y : Reading) → Neighbours (book_of c) x y → drops (level_of (book_of c)) x y ≡ false
-  pub bandwidth_none : (r : Kept) → BandwidthOf s r → mark c ≡ false → ((x y : Reading) → Neighbours (book_of c) x y → drops (level_of (book_of c)) x y ≡ false) → kept_outcome r ≡ none
-  pub feed_number : {p : Part} {t : SensitivitySummary} (h : FedBy s p t) → number_of_fed h.result ≡ part_refusal (book_of c) (mark c) p
+  pub crossover_there : (r : Option Float) × CrossoverOf s r
+  pub bandwidth_there : (r : Result (Option Float) NotKept) × BandwidthOf s r
+  pub crossover : (r : Option Float) → CrossoverOf s r → crossing_outcome r ≡ crossing_outcome (sensitivity_crossover (book_of c))
+  pub no_crossover : (r : Option Float) → CrossoverOf s r → crossing_outcome r ≡ none → (x y : Reading) → Neighbours (book_of c) x y → equal_crosses x y ≡ false
+  pub crossover_none : (r : Option Float) → CrossoverOf s r → ((x y : Reading) → Neighbours (book_of c) x y → equal_crosses x y ≡ false) → crossing_outcome r ≡ none
+  pub bandwidth : (r : Result (Option Float) NotKept) → BandwidthOf s r → mark c ≡ false → kept_outcome r ≡ crossing_outcome (bandwidth_of (book_of c))
+  pub bandwidth_marked : (r : Result (Option Float) NotKept) → BandwidthOf s r → mark c ≡ true → kept_outcome r ≡ not_kept
+  pub only_marked : (r : Result (Option Float) NotKept) → BandwidthOf s r → kept_outcome r ≡ not_kept → mark c ≡ true
+  pub no_bandwidth : (r : Result (Option Float) NotKept) → BandwidthOf s r → kept_outcome r ≡ none → (x y : Reading) → Neighbours (book_of c) x y → drops (level_of (book_of c)) x y ≡ false
+  pub bandwidth_none : (r : Result (Option Float) NotKept) → BandwidthOf s r → mark c ≡ false → ((x y : Reading) → Neighbours (book_of c) x y → drops (level_of (book_of c)) x y ≡ false) → kept_outcome r ≡ none
+  pub feed_number : {p : Part} {t : SensitivitySummary} (h : FedBy s p t) → refusal_of h.result ≡ part_refusal (book_of c) (mark c) p
   pub feed_refused : {p : Part} {t : SensitivitySummary} → FedBy s p t → (part_refusal (book_of c) (mark c) p ≡ 0 → ⊥) → t ≡ s
 
 -- ---- the proof: whatever the calls leave is the summary of the book
@@ -105,10 +105,10 @@ demand_3 c s h =
     number : Outcome → ℕ
     number o = o.number
 
-    crossover_is : (r : Crossing) → CrossoverOf s r → crossing_outcome r ≡ crossing_outcome (sensitivity_crossover (book_of c))
+    crossover_is : (r : Option Float) → CrossoverOf s r → crossing_outcome r ≡ crossing_outcome (sensitivity_crossover (book_of c))
     crossover_is r g = rw (summary_of_book h, crossover_answer_lem) at g.learnt
 
-    bandwidth_is : (r : Kept) → BandwidthOf s r → kept_outcome r ≡ bandwidth_outcome (mark c) (book_of c)
+    bandwidth_is : (r : Result (Option Float) NotKept) → BandwidthOf s r → kept_outcome r ≡ bandwidth_outcome (mark c) (book_of c)
     bandwidth_is r g = rw (summary_of_book h, bandwidth_answer_lem) at g.learnt
 
     stays : {p : Part} {t : SensitivitySummary} → FedBy s p t → (part_refusal (book_of c) (mark c) p ≡ 0 → ⊥) → t ≡ s
@@ -121,10 +121,9 @@ next : SensitivitySummary → Part → SensitivitySummary
 next s p = left_after (part_refusal [] false p) s (fed_by s (part_readings p))
 
 feed_possible : (s : SensitivitySummary) (p : Part) → FedBy s p (next s p)
-unfolding next part_refusal part_readings number_of_fed left_by
+unfolding next part_refusal part_readings
 feed_possible s p =
-    let k = lists_checked p.omega p.s p.t in
-    let r = result_says Taken Refused number_of_fed left_by (λ t. refl) (λ e. refl) (λ s t. refl) (λ s e. refl) k s (fed_by s (part_readings p)) in
+    let r = result_says (lists_checked p.omega p.s p.t) s (fed_by s (part_readings p)) in
     fed_lists ([], ([], ([], tt))) r.0 (λ a. r.1) (sym r.1.1)
 
 -- the summary that the definitions leave after the calls
@@ -139,5 +138,5 @@ run_reached c =
 
 -- ---- two lists of calls with the same book answer the same, however the sweep was cut, fed and joined
 
-pub same_crossover : (c d : Calls Part) → book_of c ≡ book_of d → (s t : SensitivitySummary) → Reaches c s → Reaches d t → (r q : Crossing) → CrossoverOf s r → CrossoverOf t q → crossing_outcome r ≡ crossing_outcome q
+pub same_crossover : (c d : Calls Part) → book_of c ≡ book_of d → (s t : SensitivitySummary) → Reaches c s → Reaches d t → (r q : Option Float) → CrossoverOf s r → CrossoverOf t q → crossing_outcome r ≡ crossing_outcome q
 same_crossover c d e s t h k r q g f = cc ((demand_3 c s h).crossover r g, (demand_3 d t k).crossover q f)

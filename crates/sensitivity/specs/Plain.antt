@@ -6,12 +6,12 @@ use Rattle.sensitivity.specs.declared.summary.SensitivityPlain.{SensitivityPlain
 unfoldable pub plain_of : SensitivitySummary → SensitivityPlain
 plain_of s =
     record {
-      read = read_mark s.read;
+      read = read_mark s.ends.read;
       crossover_found = crossing_mark s.crossover;
       bandwidth_state = kept_mark s.bandwidth;
       reserved = 0;
-      first = s.first;
-      last = s.last;
+      first = s.ends.first;
+      last = s.ends.last;
       crossover = crossing_value s.crossover;
       bandwidth = kept_value s.bandwidth;
     }
@@ -20,9 +20,7 @@ plain_of s =
 unfoldable pub from_plain : SensitivityPlain → SensitivitySummary
 from_plain p =
     record {
-      read = marked_read p.read;
-      first = p.first;
-      last = p.last;
+      ends = record { read = marked_read p.read; first = p.first; last = p.last };
       crossover = marked_crossing p.crossover_found p.crossover;
       bandwidth = marked_kept p.bandwidth_state p.bandwidth;
     }

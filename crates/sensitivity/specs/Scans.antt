@@ -1,11 +1,9 @@
 -- The scans over a sweep of S and T in dB. Definitions only.
-use Rattle.std.specs.Prelude.{ℕ, ◌+◌, Bool, List, get_or, Float}
-use Rattle.std.specs.Float.{nan, binary64}
+use Rattle.std.specs.Prelude.{Bool, List, Option, get_or, Float}
+use Rattle.std.specs.Float.{binary64}
 use Rattle.std.specs.Float.Ieee.{sub, neg, of_bits}
 use Rattle.scalar.specs.Scalar.{f0}
-use Rattle.sweep.specs.Scan.{first_pair, cross_if, crosses_by, between}
-use Rattle.sweep.specs.declared.Crossing.{Crossing}
-use Rattle.sweep.specs.declared.Sought.TheVariants.{Zero, Drop}
+use Rattle.sweep.specs.Scan.{first_pair, cross_if, crosses_zero, drops_below, between}
 use Rattle.sensitivity.specs.declared.Reading.{Reading}
 
 abbrev pub reading : Float → Float → Float → Reading
@@ -23,12 +21,12 @@ equal_between a b = between a.omega b.omega (neg (difference a)) (sub binary64 (
 
 -- whether two readings cross, and where
 abbrev pub equal_crosses : Reading → Reading → Bool
-equal_crosses a b = crosses_by Zero (difference a) (difference b)
+equal_crosses a b = crosses_zero (difference a) (difference b)
 
-unfoldable pub equal_pair : Reading → Reading → Crossing
+unfoldable pub equal_pair : Reading → Reading → Option Float
 equal_pair a b = cross_if (equal_crosses a b) (equal_between a b)
 
-unfoldable pub sensitivity_crossover : List Reading → Crossing
+unfoldable pub sensitivity_crossover : List Reading → Option Float
 sensitivity_crossover l = first_pair equal_pair l
 
 -- ---- bandwidth: T is at or above a level at one reading and below it at the next, the level being the list's first T less 3
@@ -53,16 +51,10 @@ drop_between level a b = between a.omega b.omega (sub binary64 level a.t) (sub b
 
 -- whether T drops below the level between two readings, and where
 abbrev pub drops : Float → Reading → Reading → Bool
-drops level a b = crosses_by (Drop level) a.t b.t
+drops level a b = drops_below level a.t b.t
 
-unfoldable pub drop_pair : Float → Reading → Reading → Crossing
+unfoldable pub drop_pair : Float → Reading → Reading → Option Float
 drop_pair level a b = cross_if (drops level a b) (drop_between level a b)
 
-unfoldable pub bandwidth_of : List Reading → Crossing
+unfoldable pub bandwidth_of : List Reading → Option Float
 bandwidth_of l = first_pair (drop_pair (level_of l)) l
-
--- ---- on lists of numbers: whether S - T crosses 0 between places k and k + 1
-
-abbrev pub equal_at : List Float → List Float → ℕ → Bool
-equal_at s t k =
-    crosses_by Zero (sub binary64 (get_or s k nan) (get_or t k nan)) (sub binary64 (get_or s (k + 1) nan) (get_or t (k + 1) nan))

@@ -1,34 +1,28 @@
 -- The summary of a sweep of S and T, and what feeds and joins make of it. Definitions only.
-use Rattle.std.specs.Prelude.{ℕ, ◌-◌, Bool, true, false, ◌&&◌, ◌||◌, cond, List, length, get_or, Float}
+use Rattle.std.specs.Prelude.{ℕ, Bool, true, false, cond, List, Option, Result, Ok, Err, Float}
 use Rattle.laws.specs.Outcome.{Outcome}
-use Rattle.sweep.specs.Answer.{crossing_outcome, not_kept, kept_outcome, kept_of, or_kept}
-use Rattle.sweep.specs.Refusal.{number_of, lists_refusal}
+use Rattle.sweep.specs.Answer.{crossing_outcome, not_kept, kept_outcome, or_kept}
+use Rattle.sweep.specs.Ends.{ends_of, ends_behind, crossing_between}
+use Rattle.sweep.specs.Refusal.{lists_refusal}
 use Rattle.sweep.specs.Runs.{Calls, book, is_taken}
-use Rattle.sweep.specs.Scan.{or_else, first_pair, not_empty, crossing_at, zip3}
-use Rattle.sweep.specs.declared.Crossing.{Crossing}
-use Rattle.sweep.specs.declared.Kept.{Kept}
-use Rattle.sweep.specs.declared.Kept.TheVariants.{NotKept}
+use Rattle.sweep.specs.Scan.{or_else, first_pair, zip3}
+use Rattle.sweep.specs.declared.NotKept.{NotKept}
 use Rattle.sensitivity.specs.Scans.{reading, zero_reading, equal_pair, level_by, drop_pair, sensitivity_crossover, bandwidth_of}
 use Rattle.sensitivity.specs.declared.Reading.{Reading}
 use Rattle.sensitivity.specs.declared.summary.SensitivitySummary.{SensitivitySummary}
-use Rattle.sensitivity.specs.declared.summary.SensitivityFed.{SensitivityFed}
-use Rattle.sensitivity.specs.declared.summary.SensitivityFed.TheVariants.{Taken, Refused}
 
 -- ---- the summary
 
 -- the bandwidth of a list, which is not kept under the mark
-unfoldable pub bandwidth_under : Bool → List Reading → Kept
-bandwidth_under true l = NotKept
-bandwidth_under false l = kept_of (bandwidth_of l)
+unfoldable pub bandwidth_under : Bool → List Reading → Result (Option Float) NotKept
+bandwidth_under true l = Err (record {})
+bandwidth_under false l = Ok (bandwidth_of l)
 
--- The summary of a list of readings: whether it has any, the first and the last of them, the first crossing and the bandwidth. The mark says whether a join is
--- among the calls.
+-- The summary of a list of readings: its ends, the first crossing and the bandwidth. The mark says whether a join is among the calls.
 unfoldable pub summary_of : List Reading → Bool → SensitivitySummary
 summary_of l m =
     record {
-      read = not_empty l;
-      first = get_or l 0 zero_reading;
-      last = get_or l (length l - 1) zero_reading;
+      ends = ends_of zero_reading l;
       crossover = sensitivity_crossover l;
       bandwidth = bandwidth_under m l;
     }
@@ -38,16 +32,14 @@ summary_of l m =
 unfoldable pub join_of : SensitivitySummary → SensitivitySummary → SensitivitySummary
 join_of s t =
     record {
-      read = s.read || t.read;
-      first = cond s.read s.first t.first;
-      last = cond t.read t.last s.last;
-      crossover = or_else (or_else s.crossover (crossing_at equal_pair (s.read && t.read) s.last t.first)) t.crossover;
-      bandwidth = NotKept;
+      ends = ends_behind s.ends t.ends;
+      crossover = or_else (or_else s.crossover (crossing_between equal_pair s.ends t.ends)) t.crossover;
+      bandwidth = Err (record {});
     }
 
 -- the first drop below a level in readings l that come behind those of s: that of the two where they meet, else that of l
-unfoldable pub drop_behind : Float → SensitivitySummary → List Reading → Crossing
-drop_behind level s l = or_else (crossing_at (drop_pair level) (s.read && not_empty l) s.last (get_or l 0 zero_reading)) (first_pair (drop_pair level) l)
+unfoldable pub drop_behind : Float → SensitivitySummary → List Reading → Option Float
+drop_behind level s l = or_else (crossing_between (drop_pair level) s.ends (ends_of zero_reading l)) (first_pair (drop_pair level) l)
 
 -- A feed puts the part's readings behind s as a join does, but for the bandwidth: where none was found, the part may have it. Its level is that of the first
 -- reading of all.
@@ -55,24 +47,12 @@ unfoldable pub fed_by : SensitivitySummary → List Reading → SensitivitySumma
 fed_by s l =
     let t = join_of s (summary_of l false) in
     record {
-      read = t.read;
-      first = t.first;
-      last = t.last;
+      ends = t.ends;
       crossover = t.crossover;
-      bandwidth = or_kept s.bandwidth (drop_behind (level_by t.first) s l);
+      bandwidth = or_kept s.bandwidth (drop_behind (level_by t.ends.first) s l);
     }
 
 -- ---- in the numbers of document 01
-
--- the number of a feed: 0 where the part was taken, or the refusal
-unfoldable pub number_of_fed : SensitivityFed → ℕ
-number_of_fed (Taken t) = 0
-number_of_fed (Refused e) = number_of e
-
--- the summary that the caller of a feed has afterwards: what was returned, or s as it came where the part was refused
-unfoldable pub left_by : SensitivityFed → SensitivitySummary → SensitivitySummary
-left_by (Taken t) s = t
-left_by (Refused e) s = s
 
 -- the answers
 unfoldable pub crossover_answer : SensitivitySummary → Outcome
