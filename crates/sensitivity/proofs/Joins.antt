@@ -9,7 +9,8 @@ use Rattle.sweep.specs.Answer.{crossing_outcome, kept_outcome, or_kept}
 use Rattle.sweep.specs.Ends.{ends_of, crossing_between}
 use Rattle.sweep.specs.Runs.{Cuts, list_of, joined_up}
 use Rattle.sweep.specs.Scan.{or_else, first_pair}
-use Rattle.sweep.proofs.Scans.{or_else_assoc, kept_or, some_append, first_behind, last_behind, crossing_behind}
+use Rattle.sweep.proofs.Scans.{or_else_assoc, kept_or}
+use Rattle.sweep.proofs.Behind.{ends-append, crossing-append}
 use Rattle.sweep.proofs.Runs.{join_assoc, neutral_before, neutral_behind, fed_uncut, joined_uncut}
 use Rattle.sensitivity.specs.Scans.{zero_reading, equal_pair, drop_pair, level_of, sensitivity_crossover, bandwidth_of}
 use Rattle.sensitivity.specs.Summary.{bandwidth_under, summary_of, join_of, drop_behind, fed_by, crossover_answer, bandwidth_answer, bandwidth_outcome}
@@ -31,7 +32,7 @@ kept_append l k m =
     let cut = crossing_between p (ends_of zero_reading l) (ends_of zero_reading k) in
     let whole : first_pair p (l ++ k) ≡ bandwidth_of (l ++ k) = unfold bandwidth_of in refl in
     kept_or (bandwidth_of l) (or_else cut (first_pair p k))
-    ∙ ap Ok (ap (λ (a : Option Float). or_else a (or_else cut (first_pair p k))) (same_level l k) ∙ sym (or_else_assoc (first_pair p l) cut (first_pair p k)) ∙ crossing_behind zero_reading p l k ∙ whole)
+    ∙ ap Ok (ap (λ (a : Option Float). or_else a (or_else cut (first_pair p k))) (same_level l k) ∙ sym (or_else_assoc (first_pair p l) cut (first_pair p k)) ∙ crossing-append zero_reading p l k ∙ whole)
 
 bandwidth_append : (l : List Reading) (m : Bool) (k : List Reading)
     → or_kept (bandwidth_under m l) (drop_behind (level_of (l ++ k)) (summary_of l m) k) ≡ bandwidth_under m (l ++ k)
@@ -45,12 +46,8 @@ pub join_append : (l : List Reading) (m : Bool) (k : List Reading) (n : Bool) �
 unfolding join_of summary_of sensitivity_crossover bandwidth_under
 join_append l m k n =
     λ i. record {
-      ends = record {
-        read = some_append l k i;
-        first = first_behind zero_reading l k i;
-        last = last_behind zero_reading l k i;
-      };
-      crossover = crossing_behind zero_reading equal_pair l k i;
+      ends = ends-append zero_reading l k i;
+      crossover = crossing-append zero_reading equal_pair l k i;
       bandwidth = Err (record {});
     }
 

@@ -37,22 +37,6 @@ pub struct SensitivityPlain {
     pub bandwidth: f64,
 }
 
-// The first crossing in a part that comes behind `before`: where it begins, or else among its own readings.
-fn first_behind<C: Crossing<Reading>>(
-    before: Ends<Reading>,
-    part: Ends<Reading>,
-    sweep: &Lists,
-    crossing: &C,
-) -> Option<f64>
-    ensures { result ≡ or_else (crossing_between (C.pair crossing.now) before part)
-        (first_pair (C.pair crossing.now) (zip3 reading sweep.now.omega.now sweep.now.first.now sweep.now.second.now)) }
-{
-    match before.crossing(part, crossing) {
-        None => sweep::first_crossing(sweep, crossing),
-        found => found,
-    }
-}
-
 impl SensitivitySummary {
     // The summary of no readings.
     #[tactic(auto, unfolding(crate::specs::Summary::summary_of, crate::specs::Summary::bandwidth_under, crate::specs::Scans::sensitivity_crossover, crate::specs::Scans::bandwidth_of))]
@@ -67,23 +51,21 @@ impl SensitivitySummary {
     }
 
     // The summary with a part's readings behind it. The part is scanned only where it decides.
-    #[tactic(auto, unfolding(crate::specs::Summary::fed_by, crate::specs::Summary::join_of, crate::specs::Summary::summary_of, crate::specs::Summary::drop_behind, crate::specs::Scans::sensitivity_crossover, sweep::specs::Answer::or_kept), using(sweep::proofs::Scans::or_else_assoc))]
-    fn fed(self, sweep: Lists) -> SensitivitySummary
-        ensures { result ≡ fed_by self (zip3 reading sweep.entry.omega.now sweep.entry.first.now sweep.entry.second.now) }
+    #[tactic(auto, unfolding(crate::specs::Summary::fed_by, crate::specs::Summary::join_of, crate::specs::Summary::summary_of, crate::specs::Summary::drop_behind, crate::specs::Scans::sensitivity_crossover, sweep::specs::Answer::or_kept))]
+    fn fed(self, part: Lists) -> SensitivitySummary
+        ensures { result ≡ fed_by self (zip3 reading part.entry.omega.now part.entry.first.now part.entry.second.now) }
     {
-        let part = Ends::of(&sweep);
-        let ends = self.ends.then(part);
+        let ends = Ends::of(&part);
+        let crossover = self.crossover.or(self.ends.crossing(ends, &Equal));
+        let first = self.ends.then(ends).first;
         let drop = LevelDrop {
-            level: super::level_by(ends.first),
+            level: super::level_by(first),
         };
         SensitivitySummary {
-            ends,
-            crossover: match self.crossover {
-                None => first_behind(self.ends, part, &sweep, &Equal),
-                found => found,
-            },
+            ends: self.ends.then(ends),
+            crossover: sweep::crossing_from(crossover, &part, &Equal),
             bandwidth: match self.bandwidth {
-                Ok(None) => Ok(first_behind(self.ends, part, &sweep, &drop)),
+                Ok(None) => Ok(sweep::crossing_from(self.ends.crossing(ends, &drop), &part, &drop)),
                 kept => kept,
             },
         }
@@ -96,8 +78,8 @@ impl SensitivitySummary {
             × (left_by result self ≡ left_after (lists_refusal omega.now s.now t.now) self
             (fed_by self (zip3 reading omega.now s.now t.now))) }
     {
-        let sweep = Lists::new(omega, s, t)?;
-        Ok(self.fed(sweep))
+        let part = Lists::new(omega, s, t)?;
+        Ok(self.fed(part))
     }
 
     // The readings of `later` behind those of `self`. The bandwidth is not kept.
@@ -105,12 +87,10 @@ impl SensitivitySummary {
     pub fn join(self, later: SensitivitySummary) -> SensitivitySummary
         ensures { result ≡ join_of self later }
     {
+        let crossover = self.crossover.or(self.ends.crossing(later.ends, &Equal));
         SensitivitySummary {
             ends: self.ends.then(later.ends),
-            crossover: self
-                .crossover
-                .or_else(|| self.ends.crossing(later.ends, &Equal))
-                .or(later.crossover),
+            crossover: crossover.or(later.crossover),
             bandwidth: Err(NotKept),
         }
     }
