@@ -2,7 +2,7 @@
 use Prim.Native.Nat.{ℕ, ◌+◌, ◌<◌, ◌≤◌}
 use mathlib.Core.Path.{◌≡◌, refl, ap, ◌∙◌}
 use mathlib.Core.Bool.{true, false}
-use mathlib.Core.List.{List, [], ◌∷◌, ◌++◌}
+use mathlib.Core.List.{List, map, [], ◌∷◌, ◌++◌}
 use native.Mathlib.Numerals.{add-one}
 use native.Mathlib.Omega.{arith}
 use borrow.Author.Tests.{eqb-true}
@@ -10,6 +10,7 @@ use lib.ListN.{length, drop, get_or, drop_of_length-le}
 use lib.Seq.{drop-cons}
 use lib.Ieee.{Float, nan, lt, le}
 use Rattle.std.specs.Prelude.{Some, None}
+use Rattle.std.specs.List.{zip}
 use Rattle.laws.specs.Choice.{lesser}
 use Rattle.laws.proofs.Choice.{lesser_taken, lesser_left, least_from}
 use Rattle.scalar.proofs.Monotone.{itself}
@@ -65,15 +66,9 @@ module _ (re im : List Float) where
   pub least_done : (m : Float) (i : ℕ) → length re ≤ i → m ≡ least_from itself point_square m (rest i)
   least_done m i h = rw (rest_none i h)
 
-  -- the loop that looks for the first point within a square: one is found, or passed
-  pub within_found : (m s : Float) (i : ℕ) → i < length re → i < length im → s ≡ point_square (point_at i) → le s m ≡ true → Some (point_at i) ≡ first_within m (rest i)
-  unfolding first_within
-  within_found m s i h k e t = rw (rest_more i h k) (rw (rw e at t))
-
-  pub within_passed : (m s : Float) (i : ℕ) → i < length re → i < length im → s ≡ point_square (point_at i) → le s m ≡ false → first_within m (rest i) ≡ first_within m (rest (i + 1))
-  unfolding first_within
-  within_passed m s i h k e t = rw (rest_more i h k) (rw (rw e at t))
-
-  pub within_done : (m : Float) (i : ℕ) → length re ≤ i → None ≡ first_within m (rest i)
-  unfolding first_within
-  within_done m i h = rw (rest_none i h)
+-- ---- the points as a chain of iterators gives them
+pub points_zip : (xs ys : List Float) → map (λ (p : Float × Float). new_of p.0 p.1) (zip xs ys) ≡ points xs ys
+unfolding points
+points_zip [] ys = refl
+points_zip (x ∷ xs) [] = refl
+points_zip (x ∷ xs) (y ∷ ys) = ap (λ (l : List Complex). new_of x y ∷ l) (points_zip xs ys)

@@ -1,5 +1,6 @@
 -- The summary of a curve, and what feeds and joins make of it. Definitions only.
-use Rattle.std.specs.Prelude.{ℕ, Bool, false, cond, List, [], ◌∷◌, Option, Some, None, Float}
+use Rattle.std.specs.Prelude.{ℕ, Bool, false, List, Option, Some, None, Float}
+use Rattle.std.specs.List.{find}
 use Rattle.std.specs.Float.Ieee.{le}
 use Rattle.laws.specs.Loops.{push_all}
 use Rattle.laws.specs.Choice.{lesser}
@@ -22,8 +23,7 @@ nearest_of l = push_all (λ (n : Option Complex) (z : Complex). lesser key_of n 
 
 -- the first point whose square is at most m
 unfoldable pub first_within : Float → List Complex → Option Complex
-first_within m [] = None
-first_within m (z ∷ l) = cond (le (point_square z) m) (Some z) (first_within m l)
+first_within m l = find (λ (z : Complex). le (point_square z) m) l
 
 -- ---- the summary
 

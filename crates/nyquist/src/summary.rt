@@ -11,7 +11,7 @@ use crate::curve::{Curve, point_square};
 use complex::Complex;
 use sweep::FreqError;
 
-// The point nearest to (-1, 0), if there is one whose squared distance is finite.
+// Of the points the one nearest to (-1, 0), if there is one whose squared distance is finite.
 #[derive(Clone, Copy)]
 pub struct CurveSummary {
     nearest: Option<Complex>,

@@ -5,13 +5,13 @@ use Rattle.nyquist.proofs.curve.Curve.nearest.Goals as goal
 pub loop-re-init : goal.loop-re-init
 loop-re-init c = record { can = search rules; finite = tt; going = going_begin (search rules) (cc) (cc) (cc) (cc) }
 
-pub loop-re-preserved-then-square-least : goal.loop-re-preserved-then-square-least
-loop-re-preserved-then-square-least c =
+pub loop-re-preserved-then-square-lowest : goal.loop-re-preserved-then-square-lowest
+loop-re-preserved-then-square-lowest c =
     let e = c.in-Some.ensures.steps in
     record {
       can = search rules;
       finite = tt;
-      going = going_taken _ _ _ _ c.loop-re.invariant.going e.0.1.0 e.1.1.0 e.0.1.1 e.1.1.1 e.0.0 e.1.0 c.least_square-square.ensures c.if-square-least.true;
+      going = going_taken _ _ _ _ c.loop-re.invariant.going e.0.1.0 e.1.1.0 e.0.1.1 e.1.1.1 e.0.0 e.1.0 c.least_square-square.ensures c.if-square-lowest.true;
     }
 
 pub loop-re-preserved : goal.loop-re-preserved
@@ -20,7 +20,7 @@ loop-re-preserved c =
     record {
       can = search rules;
       finite = tt;
-      going = going_left _ _ _ _ c.loop-re.invariant.going e.0.1.0 e.1.1.0 e.0.1.1 e.1.1.1 e.0.0 e.1.0 c.least_square-square.ensures c.if-square-least.false;
+      going = going_left _ _ _ _ c.loop-re.invariant.going e.0.1.0 e.1.1.0 e.0.1.1 e.1.1.1 e.0.0 e.1.0 c.least_square-square.ensures c.if-square-lowest.false;
     }
 
 pub returns : goal.returns

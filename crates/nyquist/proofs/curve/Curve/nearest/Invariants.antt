@@ -7,7 +7,7 @@ abbrev pub invariant-loop-re : goal.invariant-loop-re
 invariant-loop-re l = record {
   can : (goal.iterator-loop-re).can_next l.re-iterator;
   finite : (goal.iterator-loop-re).is_finite l.re-iterator;
-  going : Going l.self.re.now l.self.im.now l.least l.deciding.0.now l.deciding.1.0.now
+  going : Going l.self.re.now l.self.im.now l.lowest l.deciding.0.now l.deciding.1.0.now
       (chunks_size (zip_first l.re-iterator)) (chunks_size (zip_second l.re-iterator))
       (chunks_rest (zip_first l.re-iterator)) (chunks_rest (zip_second l.re-iterator));
 }
