@@ -1,4 +1,5 @@
 pub mod Scan
+pub mod Answers
 pub mod Roots
 pub mod Laws
 pub mod Nearing

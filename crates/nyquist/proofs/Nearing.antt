@@ -1,97 +1,127 @@
--- The nearest point of a curve: the loop that looks for it, the law of one curve behind another, and its distance. Assumes nothing.
-use Prim.Native.Nat.{ℕ, ◌+◌, ◌<◌, ◌≤◌}
+-- The nearest point of a curve: the law of one curve behind another, its distance, and where it is found. Assumes nothing.
 use mathlib.Core.Path.{◌≡◌, refl, sym, ap, ◌∙◌}
-use mathlib.Core.Bool.{Bool, true, false, cond}
+use mathlib.Core.Bool.{Bool, true, false, true≢false}
 use mathlib.Core.List.{List, [], ◌∷◌, ◌++◌}
-use native.Mathlib.Omega.{arith}
-use borrow.Author.Tests.{lt-ltb, le-ltb}
-use lib.Dec.{ltb}
-use lib.ListN.{length, get_or}
-use lib.Ieee.{Float, nan, lt, of_bits}
+use lib.Dec.{T}
+use lib.Ieee.{Float, nan, inf, fin, lt, le, of_bits}
+use Rattle.std.specs.Prelude.{Option, Some, None}
 use Rattle.laws.specs.Choice.{lesser}
-use Rattle.laws.proofs.Choice.{lesser_taken, lesser_left, lesser_key, least_from}
+use Rattle.laws.proofs.Order.{number, lt_numbers, lt_irrefl, le_lt_trans, le_of_not_lt, not_le_of_lt}
+use Rattle.laws.proofs.Choice.{lesser_taken, lesser_left, lesser_key, least_from, least_number, least_spread}
 use Rattle.laws.proofs.Least.{least_append}
 use Rattle.scalar.specs.Sqrt.{sqrt_of}
 use Rattle.scalar.proofs.Monotone.{itself}
-use Rattle.complex.specs.Complex.{new_of}
 use Rattle.complex.specs.declared.Complex.{Complex}
-use Rattle.nyquist.specs.Curve.{points, point_square, least_square, infinity, or_zero, distance_of}
-use Rattle.nyquist.specs.Summary.{key_of, nearest_of}
-use Rattle.nyquist.specs.declared.summary.Nearest.{Nearest}
-use Rattle.nyquist.specs.declared.summary.Nearest.TheVariants.{Nowhere, Point}
-use Rattle.nyquist.proofs.Scan.{rest, rest_more, rest_none}
+use Rattle.nyquist.specs.Curve.{point_square, least_square, infinity, or_zero, distance_of}
+use Rattle.nyquist.specs.Summary.{key_of, nearest_of, first_within}
 use Rattle.nyquist.proofs.Roots.{one_root}
+
+pub none_number : T (number (key_of None))
+unfolding key_of of_bits
+none_number = tt
 
 -- ---- one curve behind another has the nearer of both nearest points
 pub nearest_append : (l k : List Complex) → lesser key_of (nearest_of l) (nearest_of k) ≡ nearest_of (l ++ k)
 unfolding nearest_of
-nearest_append l k = sym (least_append key_of Point Nowhere (unfold key_of of_bits in tt) l k)
+nearest_append l k = sym (least_append key_of Some None none_number l k)
+
+pub nearest_number : (l : List Complex) → T (number (key_of (nearest_of l)))
+unfolding nearest_of
+nearest_number l = least_number key_of Some l None none_number
 
 -- ---- the square of the nearest point's distance is the least square, whose root is the distance of the curve
 
-key_least : (l : List Complex) (n : Nearest) → key_of (least_from key_of Point n l) ≡ least_from itself point_square (key_of n) l
+key_least : (l : List Complex) (n : Option Complex) → key_of (least_from key_of Some n l) ≡ least_from itself point_square (key_of n) l
 key_least [] n = refl
 key_least (z ∷ l) n =
-    key_least l (lesser key_of n (Point z))
-    ∙ ap (λ (m : Float). least_from itself point_square m l) (lesser_key key_of n (Point z) ∙ (unfold key_of in refl))
+    key_least l (lesser key_of n (Some z))
+    ∙ ap (λ (m : Float). least_from itself point_square m l) (lesser_key key_of n (Some z) ∙ (unfold key_of in refl))
 
 pub key_nearest : (l : List Complex) → key_of (nearest_of l) ≡ least_square l
 unfolding nearest_of least_square key_of
-key_nearest l = key_least l Nowhere
+key_nearest l = key_least l None
 
 pub nearest_distance : (l : List Complex) → or_zero (sqrt_of (key_of (nearest_of l))) ≡ distance_of l
 nearest_distance l = ap (λ (m : Float). or_zero (sqrt_of m)) (key_nearest l) ∙ one_root l
 
--- ---- the loop
-module _ (re im : List Float) where
-  -- the point at a place, and the same as the nearest one, which is nowhere at the place past the last
-  abbrev point_at : ℕ → Complex
-  point_at at = new_of (get_or re at nan) (get_or im at nan)
+-- ---- the first point within the least square is the nearest one
 
-  abbrev placed : ℕ → Nearest
-  placed at = cond (ltb at (length re)) (Point (point_at at)) Nowhere
+-- nothing is above infinity
+pub none_above : (x : Float) → lt infinity x ≡ false
+unfolding of_bits lt
+none_above nan = refl
+none_above (inf true) = refl
+none_above (inf false) = refl
+none_above (fin s m e) = refl
 
-  placed_point : (at : ℕ) → at < length re → placed at ≡ Point (point_at at)
-  placed_point at h = rw (lt-ltb at (length re) h)
+-- the nearest of n and a list's points
+abbrev nearest_from : Option Complex → List Complex → Option Complex
+nearest_from n l = least_from key_of Some n l
 
-  placed_nowhere : (at : ℕ) → length re ≤ at → placed at ≡ Nowhere
-  placed_nowhere at h = rw (le-ltb at (length re) h)
+nearer_of_both : (n : Option Complex) (l : List Complex) → nearest_from n l ≡ lesser key_of n (nearest_from None l)
+unfolding key_of
+nearer_of_both n l = ap (λ (a : Option Complex). nearest_from a l) (lesser_left key_of n None (none_above (key_of n))) ∙ least_spread key_of Some l n None none_number
 
-  -- the nearest point so far, and the points from i on, have the whole curve's nearest point
-  pub record Nearing (least : Float) (at i : ℕ) : Type 0 where
-    pub same : length re ≡ length im
-    pub key : least ≡ key_of (placed at)
-    pub left : least_from key_of Point (placed at) (rest re im i) ≡ nearest_of (points re im)
+-- it is n, where it is no nearer
+same_start : (n : Option Complex) (l : List Complex) → lt (key_of (nearest_from n l)) (key_of n) ≡ false → nearest_from n l ≡ n
+same_start n l h = go (lt (key_of (nearest_from None l)) (key_of n)) refl
+  where
+    go : (b : Bool) → lt (key_of (nearest_from None l)) (key_of n) ≡ b → nearest_from n l ≡ n
+    go true e =
+        let s = lesser_taken key_of n (nearest_from None l) e in
+        absurd (true≢false (sym e ∙ ap (λ (a : Option Complex). lt (key_of a) (key_of n)) (s ∙ sym (nearer_of_both n l)) ∙ h))
+    go false e = nearer_of_both n l ∙ sym (lesser_left key_of n (nearest_from None l) e)
 
-  pub nearing_begin : length re ≡ length im → Nearing infinity (length re) 0
-  unfolding nearest_of key_of
-  nearing_begin h = let e = placed_nowhere (length re) (omega arith) in record { same = h; key = sym (ap key_of e); left = rw e }
+within_itself : (x : Float) → T (number x) → le x x ≡ true
+within_itself x n = go (le x x) (le_of_not_lt x x n n (lt_irrefl x))
+  where
+    go : (b : Bool) → T b → b ≡ true
+    go true t = refl
+    go false t = absurd t
 
-  -- a point is passed, whether or not it is nearer
-  module _ {least square : Float} {at i : ℕ} (s : Nearing least at i) (h : i < length re) (e : square ≡ point_square (point_at i)) where
-    key_here : (b : Bool) → lt square least ≡ b → lt (key_of (Point (point_at i))) (key_of (placed at)) ≡ b
-    unfolding key_of
-    key_here b t = let k = s.key in rw (e, k) at t
+-- what is not below n is not at most what is below n
+not_within : (x m n : Float) → lt x n ≡ false → lt m n ≡ true → le x m ≡ false
+not_within x m n h k = go (le x m) (λ (t : T (le x m)). true≢false (sym (le_lt_trans x m n (lt_numbers m n k).1 t k) ∙ h))
+  where
+    go : (b : Bool) → (T b → ⊥) → b ≡ false
+    go true f = absurd (f tt)
+    go false f = refl
 
-    passed : {next : Float} {to : ℕ} → next ≡ key_of (placed to) → placed to ≡ lesser key_of (placed at) (Point (point_at i)) → Nearing next to (i + 1)
-    passed k g = let same = s.same in record { same = same; key = k; left = rw g (rw (rest_more re im i h (omega arith)) at s.left) }
+within_here : (m : Float) (z : Complex) (l : List Complex) → le (point_square z) m ≡ true → first_within m (z ∷ l) ≡ Some z
+unfolding first_within
+within_here m z l h = rw h
 
-    pub nearing_taken : {next : Float} {to : ℕ} → lt square least ≡ true → next ≡ square → to ≡ i → Nearing next to (i + 1)
-    unfolding key_of
-    nearing_taken {next} {to} t f g =
-        let p : placed to ≡ Point (point_at i) = ap placed g ∙ placed_point i h in
-        passed (f ∙ e ∙ sym (ap key_of p)) (p ∙ lesser_taken key_of (placed at) (Point (point_at i)) (key_here true t))
+within_next : (m : Float) (z : Complex) (l : List Complex) → le (point_square z) m ≡ false → first_within m (z ∷ l) ≡ first_within m l
+unfolding first_within
+within_next m z l h = rw h
 
-    pub nearing_left : {next : Float} {to : ℕ} → lt square least ≡ false → next ≡ least → to ≡ at → Nearing next to (i + 1)
-    nearing_left {next} {to} t f g =
-        let p : placed to ≡ placed at = ap placed g in
-        passed (f ∙ s.key ∙ sym (ap key_of p)) (p ∙ lesser_left key_of (placed at) (Point (point_at i)) (key_here false t))
+-- what is found, where it is nearer than n
+abbrev Found : Option Complex → List Complex → List Complex → Type 0
+Found n l k = first_within (key_of (nearest_from n l)) k ≡ nearest_from n l
 
-  nearing_done : {least : Float} {at i : ℕ} → Nearing least at i → length re ≤ i → placed at ≡ nearest_of (points re im)
-  nearing_done {least} {at} {i} s h = rw (rest_none re im i h) at s.left
+-- z is nearer than any before it, and the nearest of l may be nearer yet
+found_from : (z : Complex) (l : List Complex) → T (number (key_of (Some z))) → (lt (key_of (nearest_from (Some z) l)) (key_of (Some z)) ≡ true → Found (Some z) l l) → Found (Some z) l (z ∷ l)
+unfolding key_of
+found_from z l p h = go (lt (key_of (nearest_from (Some z) l)) (key_of (Some z))) refl
+  where
+    go : (b : Bool) → lt (key_of (nearest_from (Some z) l)) (key_of (Some z)) ≡ b → Found (Some z) l (z ∷ l)
+    go true e = within_next (key_of (nearest_from (Some z) l)) z l (not_le_of_lt (key_of (nearest_from (Some z) l)) (point_square z) e) ∙ h e
+    go false e = let s = same_start (Some z) l e in rw s (within_here (key_of (Some z)) z l (within_itself (point_square z) p))
 
-  pub nearing_found : {least : Float} {at i : ℕ} {z : Complex} → Nearing least at i → length re ≤ i → at < length re → z ≡ point_at at → Point z ≡ nearest_of (points re im)
-  nearing_found {least} {at} {i} s h k e = ap Point e ∙ sym (placed_point at k) ∙ nearing_done s h
+within_least : (l : List Complex) (n : Option Complex) → lt (key_of (nearest_from n l)) (key_of n) ≡ true → Found n l l
+unfolding key_of
+within_least [] n h = absurd (true≢false (sym h ∙ lt_irrefl (key_of n)))
+within_least (z ∷ l) n h = go (lt (key_of (Some z)) (key_of n)) refl (within_least l)
+  where
+    go : (b : Bool) → lt (key_of (Some z)) (key_of n) ≡ b → ((a : Option Complex) → lt (key_of (nearest_from a l)) (key_of a) ≡ true → Found a l l) → Found (lesser key_of n (Some z)) l (z ∷ l)
+    go true e k =
+        let s = lesser_taken key_of n (Some z) e in
+        rw (sym s) (found_from z l (lt_numbers (key_of (Some z)) (key_of n) e).0 (k (Some z)))
+    go false e k =
+        let s = sym (lesser_left key_of n (Some z) e) in
+        let below : lt (key_of (nearest_from n l)) (key_of n) ≡ true = rw s at h in
+        rw s (within_next (key_of (nearest_from n l)) z l (not_within (point_square z) (key_of (nearest_from n l)) (key_of n) e below) ∙ k n below)
 
-  pub nearing_none : {least : Float} {at i : ℕ} → Nearing least at i → length re ≤ i → length re ≤ at → Nowhere ≡ nearest_of (points re im)
-  nearing_none {least} {at} {i} s h k = sym (placed_nowhere at k) ∙ nearing_done s h
+pub within_nearest : (l : List Complex) → lt (key_of (nearest_of l)) infinity ≡ true → first_within (key_of (nearest_of l)) l ≡ nearest_of l
+unfolding nearest_of key_of
+within_nearest l h = within_least l None h

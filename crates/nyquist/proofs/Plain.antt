@@ -5,20 +5,19 @@ use mathlib.Core.Bool.{false}
 use mathlib.Core.List.{[]}
 use borrow.Author.Tests.{ne_eqb}
 use lib.Ieee.{Float}
+use Rattle.std.specs.Prelude.{Option, Some, None}
 use Rattle.scalar.specs.Scalar.{f0}
 use Rattle.complex.specs.declared.Complex.{Complex}
 use Rattle.complex.specs.Complex.{new_of, from_real}
 use Rattle.nyquist.specs.Summary.{nearest_of, summary_of}
 use Rattle.nyquist.specs.Plain.{point_mark, point_value, marked_point, plain_of, from_plain}
-use Rattle.nyquist.specs.declared.summary.Nearest.{Nearest}
-use Rattle.nyquist.specs.declared.summary.Nearest.TheVariants.{Nowhere, Point}
 use Rattle.nyquist.specs.declared.summary.CurveSummary.{CurveSummary}
 use Rattle.nyquist.specs.contracts.summary.CurvePlain as plain_type
 
-point_back : (n : Nearest) → marked_point (point_mark n) (new_of (point_value n).re (point_value n).im) ≡ n
+point_back : (n : Option Complex) → marked_point (point_mark n) (new_of (point_value n).re (point_value n).im) ≡ n
 unfolding new_of
-point_back Nowhere = refl
-point_back (Point z) = refl
+point_back None = refl
+point_back (Some z) = refl
 
 pub plain_back : (s : CurveSummary) → from_plain (plain_of s) ≡ s
 unfolding plain_of from_plain
@@ -32,7 +31,7 @@ unfolding plain_of
 plain_places s = refl
 
 -- the mark of a point that was found
-pub found_marks : (z : Complex) → (plain_type.struct).as_values (plain_of (record { nearest = Point z })) ≡ (1, (0, (z.re, (z.im, tt))))
+pub found_marks : (z : Complex) → (plain_type.struct).as_values (plain_of (record { nearest = Some z })) ≡ (1, (0, (z.re, (z.im, tt))))
 unfolding plain_of
 found_marks z = refl
 
@@ -46,5 +45,5 @@ pub places_mean : (found reserved : ℕ) (re im : Float) → from_plain ((plain_
 unfolding from_plain
 places_mean found reserved re im = refl
 
-pub point_counts : (mark : ℕ) (z : Complex) → (mark ≡ 0 → ⊥) → marked_point mark z ≡ Point z
+pub point_counts : (mark : ℕ) (z : Complex) → (mark ≡ 0 → ⊥) → marked_point mark z ≡ Some z
 point_counts mark z h = rw (ne_eqb mark 0 h)

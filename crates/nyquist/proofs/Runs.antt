@@ -10,13 +10,13 @@ use mathlib.Core.Path.{◌≡◌, refl, sym, ◌∙◌}
 use mathlib.Core.Bool.{false}
 use mathlib.Core.List.{List, [], ◌∷◌}
 use lib.Ieee.{Float}
-use Rattle.sweep.specs.Runs.{Calls, mark, Reached, left_after, run_of, Returned, FedLists}
+use Rattle.sweep.specs.Refusal.{refusal_of}
+use Rattle.sweep.specs.Runs.{Calls, mark, Reached, left_after, left_by, run_of, Returned, FedLists}
 use Rattle.sweep.proofs.Conditions.{Checked, scan_checked}
 use Rattle.sweep.proofs.Runs.{whole, left_stays, result_says, fed_lists, ran_reached}
 use Rattle.nyquist.specs.Curve.{distance_of, curve_refusal}
-use Rattle.nyquist.specs.Summary.{summary_of, fed_by, join_of, number_of_fed, left_by, approach_answer, Part, part_refusal, part_points, book_of}
+use Rattle.nyquist.specs.Summary.{summary_of, fed_by, join_of, approach_answer, Part, part_refusal, part_points, book_of}
 use Rattle.nyquist.specs.declared.summary.CurveSummary.{CurveSummary}
-use Rattle.nyquist.specs.declared.summary.CurveFed.TheVariants.{Taken, Refused}
 use Rattle.nyquist.proofs.Joins.{fed_append, join_append, approach_answer_lem}
 use Rattle.nyquist.proofs.summary.CurveSummary.empty.Reads as empty_reads
 use Rattle.nyquist.proofs.summary.CurveSummary.feed.Reads as feed_reads
@@ -52,7 +52,7 @@ Reaches = Reached Made FedBy JoinedBy
 pub record Claim (c : Calls Part) (s : CurveSummary) : Type 0 where
   pub approach_there : (r : Float) × ApproachOf s r
   pub approach : (r : Float) → ApproachOf s r → r ≡ distance_of (book_of c)
-  pub feed_number : {p : Part} {t : CurveSummary} (h : FedBy s p t) → number_of_fed h.result ≡ part_refusal (book_of c) (mark c) p
+  pub feed_number : {p : Part} {t : CurveSummary} (h : FedBy s p t) → refusal_of h.result ≡ part_refusal (book_of c) (mark c) p
   pub feed_refused : {p : Part} {t : CurveSummary} → FedBy s p t → (part_refusal (book_of c) (mark c) p ≡ 0 → ⊥) → t ≡ s
 
 -- ---- the proof: whatever the calls leave is the summary of the book
@@ -87,10 +87,10 @@ next : CurveSummary → Part → CurveSummary
 next s p = left_after (part_refusal [] false p) s (fed_by s (part_points p))
 
 feed_possible : (s : CurveSummary) (p : Part) → FedBy s p (next s p)
-unfolding next part_refusal part_points number_of_fed left_by
+unfolding next part_refusal part_points
 feed_possible s p =
     let k = curve_checked p.re p.im in
-    let r = result_says Taken Refused number_of_fed left_by (λ t. refl) (λ e. refl) (λ s t. refl) (λ s e. refl) k s (fed_by s (part_points p)) in
+    let r = result_says k s (fed_by s (part_points p)) in
     fed_lists ([], ([], tt)) r.0 (λ a. r.1) (sym r.1.1)
 
 -- the summary that the definitions leave after the calls

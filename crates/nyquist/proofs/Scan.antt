@@ -1,54 +1,74 @@
--- The loop over a curve's points: what is left to pass gives the whole curve's least square. Assumes nothing.
+-- The loops over a curve's points: what is left to pass gives the whole curve's answer. Assumes nothing.
 use Prim.Native.Nat.{ℕ, ◌+◌, ◌<◌, ◌≤◌}
-use mathlib.Core.Path.{◌≡◌, refl, ◌∙◌}
+use mathlib.Core.Path.{◌≡◌, refl, ap, ◌∙◌}
 use mathlib.Core.Bool.{true, false}
-use mathlib.Core.List.{List, [], ◌∷◌}
+use mathlib.Core.List.{List, map, [], ◌∷◌, ◌++◌}
 use native.Mathlib.Numerals.{add-one}
 use native.Mathlib.Omega.{arith}
+use borrow.Author.Tests.{eqb-true}
 use lib.ListN.{length, drop, get_or, drop_of_length-le}
 use lib.Seq.{drop-cons}
-use lib.Ieee.{Float, nan, lt}
+use lib.Ieee.{Float, nan, lt, le}
+use Rattle.std.specs.Prelude.{Some, None}
+use Rattle.std.specs.List.{zip}
 use Rattle.laws.specs.Choice.{lesser}
 use Rattle.laws.proofs.Choice.{lesser_taken, lesser_left, least_from}
 use Rattle.scalar.proofs.Monotone.{itself}
+use Rattle.sweep.proofs.Conditions.{scan_taken}
 use Rattle.complex.specs.Complex.{new_of}
 use Rattle.complex.specs.declared.Complex.{Complex}
-use Rattle.nyquist.specs.Curve.{points, point_square, least_square, infinity}
+use Rattle.nyquist.specs.Curve.{points, point_square, least_square, infinity, curve_refusal}
+use Rattle.nyquist.specs.Summary.{first_within}
+
+-- lists that a scan takes
+pub same_length : (re im : List Float) → curve_refusal re im ≡ 0 → length re ≡ length im
+unfolding curve_refusal
+same_length re im h = eqb-true (length re) (length im) (scan_taken _ _ h).0
+
+-- points of two lists that are each one list behind another
+pub points_append : (xs ys us vs : List Float) → length xs ≡ length ys → points (xs ++ us) (ys ++ vs) ≡ points xs ys ++ points us vs
+unfolding points
+points_append [] [] us vs h = refl
+points_append [] (y ∷ ys) us vs h = absurd (omega arith)
+points_append (x ∷ xs) [] us vs h = absurd (omega arith)
+points_append (x ∷ xs) (y ∷ ys) us vs h = ap (λ (l : List Complex). new_of x y ∷ l) (points_append xs ys us vs (omega arith))
 
 module _ (re im : List Float) where
   -- the points from place i on
   abbrev pub rest : ℕ → List Complex
   rest i = points (drop i re) (drop i im)
 
-  pub rest_more : (i : ℕ) → i < length re → i < length im → rest i ≡ new_of (get_or re i nan) (get_or im i nan) ∷ rest (i + 1)
+  -- the point at a place
+  abbrev pub point_at : ℕ → Complex
+  point_at i = new_of (get_or re i nan) (get_or im i nan)
+
+  rest_more : (i : ℕ) → i < length re → i < length im → rest i ≡ point_at i ∷ rest (i + 1)
   unfolding points
   rest_more i h k = rw (add-one, drop-cons re i nan, drop-cons im i nan)
 
-  pub rest_none : (i : ℕ) → length re ≤ i → rest i ≡ []
+  rest_none : (i : ℕ) → length re ≤ i → rest i ≡ []
   unfolding points
   rest_none i h = rw (drop_of_length-le re h)
 
-  -- the least square so far, and the points from i on, have the whole curve's least square
-  pub record Scanned (least : Float) (i : ℕ) : Type 0 where
-    pub same : length re ≡ length im
-    pub left : least_from itself point_square least (rest i) ≡ least_square (points re im)
-
-  pub scan_begin : length re ≡ length im → Scanned infinity 0
+  -- the loop that keeps the least square: a square is taken, or left
+  pub least_begin : least_from itself point_square infinity (rest 0) ≡ least_square (points re im)
   unfolding least_square
-  scan_begin h = record { same = h; left = refl }
+  least_begin = refl
 
-  -- a point is passed, whether or not its square is taken
-  module _ {least square next : Float} {i : ℕ} (s : Scanned least i) (h : i < length re) (e : square ≡ point_square (new_of (get_or re i nan) (get_or im i nan))) where
-    passed : next ≡ lesser itself least square → Scanned next (i + 1)
-    passed g =
-        let same = s.same in
-        record { same = same; left = rw (g, e) (rw (rest_more i h (omega arith)) at s.left) }
+  pub least_taken : (m s : Float) (i : ℕ) → i < length re → i < length im → s ≡ point_square (point_at i) → lt s m ≡ true
+      → least_from itself point_square s (rest (i + 1)) ≡ least_from itself point_square m (rest i)
+  least_taken m s i h k e t = rw (rest_more i h k) (ap (λ (d : Float). least_from itself point_square d (rest (i + 1))) (lesser_taken itself m s t ∙ ap (lesser itself m) e))
 
-    pub scan_taken : lt square least ≡ true → next ≡ square → Scanned next (i + 1)
-    scan_taken t g = passed (g ∙ lesser_taken itself least square t)
+  pub least_left : (m s : Float) (i : ℕ) → i < length re → i < length im → s ≡ point_square (point_at i) → lt s m ≡ false
+      → least_from itself point_square m (rest (i + 1)) ≡ least_from itself point_square m (rest i)
+  least_left m s i h k e t = rw (rest_more i h k) (ap (λ (d : Float). least_from itself point_square d (rest (i + 1))) (lesser_left itself m s t ∙ ap (lesser itself m) e))
 
-    pub scan_left : lt square least ≡ false → next ≡ least → Scanned next (i + 1)
-    scan_left t g = passed (g ∙ lesser_left itself least square t)
+  pub least_done : (m : Float) (i : ℕ) → length re ≤ i → m ≡ least_from itself point_square m (rest i)
+  least_done m i h = rw (rest_none i h)
 
-  pub scan_done : {least : Float} {i : ℕ} → Scanned least i → length re ≤ i → least ≡ least_square (points re im)
-  scan_done {least} {i} s h = rw (rest_none i h) at s.left
+-- ---- the points as a chain of iterators gives them
+pub points_zip : (xs ys : List Float) → map (λ (p : Float × Float). new_of p.0 p.1) (zip xs ys) ≡ points xs ys
+unfolding points
+points_zip [] ys = refl
+points_zip (x ∷ xs) [] = refl
+points_zip (x ∷ xs) (y ∷ ys) = ap (λ (l : List Complex). new_of x y ∷ l) (points_zip xs ys)

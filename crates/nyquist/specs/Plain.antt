@@ -1,26 +1,24 @@
 -- The summary as plain numbers, for a host to keep between calls, and back. Definitions only.
-use Rattle.std.specs.Prelude.{ℕ, cond, eqb}
+use Rattle.std.specs.Prelude.{ℕ, cond, Option, Some, None, eqb}
 use Rattle.scalar.specs.Scalar.{f0}
 use Rattle.complex.specs.declared.Complex.{Complex}
 use Rattle.complex.specs.Complex.{new_of, from_real}
-use Rattle.nyquist.specs.declared.summary.Nearest.{Nearest}
-use Rattle.nyquist.specs.declared.summary.Nearest.TheVariants.{Nowhere, Point}
 use Rattle.nyquist.specs.declared.summary.CurveSummary.{CurveSummary}
 use Rattle.nyquist.specs.declared.summary.CurvePlain.{CurvePlain}
 
 -- ---- the nearest point: 1 and its parts, or 0 and (0, 0)
 
-abbrev pub point_mark : Nearest → ℕ
-point_mark Nowhere = 0
-point_mark (Point z) = 1
+abbrev pub point_mark : Option Complex → ℕ
+point_mark None = 0
+point_mark (Some z) = 1
 
-abbrev pub point_value : Nearest → Complex
-point_value Nowhere = from_real f0
-point_value (Point z) = z
+abbrev pub point_value : Option Complex → Complex
+point_value None = from_real f0
+point_value (Some z) = z
 
 -- any mark but 0 says that the point counts
-abbrev pub marked_point : ℕ → Complex → Nearest
-marked_point mark z = cond (eqb mark 0) Nowhere (Point z)
+abbrev pub marked_point : ℕ → Complex → Option Complex
+marked_point mark z = cond (eqb mark 0) None (Some z)
 
 -- ---- the summary
 

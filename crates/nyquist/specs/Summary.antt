@@ -1,28 +1,29 @@
 -- The summary of a curve, and what feeds and joins make of it. Definitions only.
-use Rattle.std.specs.Prelude.{ℕ, Bool, false, List, Float}
+use Rattle.std.specs.Prelude.{ℕ, Bool, false, List, Option, Some, None, Float}
+use Rattle.std.specs.List.{find}
+use Rattle.std.specs.Float.Ieee.{le}
 use Rattle.laws.specs.Loops.{push_all}
 use Rattle.laws.specs.Choice.{lesser}
 use Rattle.scalar.specs.Sqrt.{sqrt_of}
 use Rattle.complex.specs.declared.Complex.{Complex}
-use Rattle.sweep.specs.Refusal.{number_of}
 use Rattle.sweep.specs.Runs.{Calls, book, is_taken}
 use Rattle.nyquist.specs.Curve.{points, curve_refusal, point_square, infinity, or_zero}
-use Rattle.nyquist.specs.declared.summary.Nearest.{Nearest}
-use Rattle.nyquist.specs.declared.summary.Nearest.TheVariants.{Nowhere, Point}
 use Rattle.nyquist.specs.declared.summary.CurveSummary.{CurveSummary}
-use Rattle.nyquist.specs.declared.summary.CurveFed.{CurveFed}
-use Rattle.nyquist.specs.declared.summary.CurveFed.TheVariants.{Taken, Refused}
 
 -- ---- the nearest point
 
 -- the square of its distance from (-1, 0), and infinity where there is none
-unfoldable pub key_of : Nearest → Float
-key_of Nowhere = infinity
-key_of (Point z) = point_square z
+unfoldable pub key_of : Option Complex → Float
+key_of None = infinity
+key_of (Some z) = point_square z
 
--- The nearest of a list's points: it begins nowhere and goes over to each point that is nearer. A point whose square is a NaN or an infinity never is.
-unfoldable pub nearest_of : List Complex → Nearest
-nearest_of l = push_all (λ (n : Nearest) (z : Complex). lesser key_of n (Point z)) Nowhere l
+-- The nearest of a list's points: it begins with none and goes over to each point that is nearer. A point whose square is a NaN or an infinity never is.
+unfoldable pub nearest_of : List Complex → Option Complex
+nearest_of l = push_all (λ (n : Option Complex) (z : Complex). lesser key_of n (Some z)) None l
+
+-- the first point whose square is at most m
+unfoldable pub first_within : Float → List Complex → Option Complex
+first_within m l = find (λ (z : Complex). le (point_square z) m) l
 
 -- ---- the summary
 
@@ -45,18 +46,6 @@ join_of s t = behind s t
 -- the answer: the root of the least square, and 0 where no point counted
 unfoldable pub approach_answer : CurveSummary → Float
 approach_answer s = or_zero (sqrt_of (key_of s.nearest))
-
--- ---- in the numbers of document 01
-
--- the number of a feed: 0 where the part was taken, or the refusal
-unfoldable pub number_of_fed : CurveFed → ℕ
-number_of_fed (Taken t) = 0
-number_of_fed (Refused e) = number_of e
-
--- the summary that the caller of a feed has afterwards: what was returned, or s as it came where the part was refused
-unfoldable pub left_by : CurveFed → CurveSummary → CurveSummary
-left_by (Taken t) s = t
-left_by (Refused e) s = s
 
 -- ---- the book of a run of calls
 

@@ -3,9 +3,10 @@ ghost use Rattle.std.specs.Prelude.{◌≡◌, ◌<◌, ◌≤◌};
 ghost use Rattle.sweep.specs.Answer.{outcome_of_grid};
 ghost use Rattle.nyquist.specs.Frequency.{frequency_at, frequency_outcome, frequency_grid};
 
-use sweep::{Check, FreqError, Grid};
+use sweep::FreqError;
 
 // Frequency i of n, evenly spaced from 0 to omega_max.
+#[tactic(auto, unfolding(crate::specs::Frequency::frequency_at))]
 fn frequency_at(omega_max: f64, n: usize, i: usize) -> f64
     requires { (2 ≤ n) × (n ≤ 4096) × (i < n) }
     ensures { result ≡ frequency_at omega_max n i }
@@ -16,17 +17,12 @@ fn frequency_at(omega_max: f64, n: usize, i: usize) -> f64
 }
 
 // Writes the n frequencies into the first n places of the list.
-pub fn fill_frequency_grid(omega_max: f64, n: usize, list: &mut [f64]) -> Grid
+pub fn fill_frequency_grid(omega_max: f64, n: usize, list: &mut [f64]) -> Result<(), FreqError>
     ensures { (outcome_of_grid result ≡ frequency_outcome omega_max n list.old) × (list.new ≡ frequency_grid omega_max n list.old) }
 {
-    let room = list.len();
-    match sweep::check_grid(FreqError::InvalidFrequencyRange, n, omega_max, room) {
-        Check::Refused(e) => Grid::Refused(e),
-        Check::Passed => {
-            for i in 0..n {
-                list[i] = frequency_at(omega_max, n, i);
-            }
-            Grid::Filled
-        }
+    sweep::check_grid(FreqError::InvalidFrequencyRange, n, omega_max, list.len())?;
+    for i in 0..n {
+        list[i] = frequency_at(omega_max, n, i);
     }
+    Ok(())
 }

@@ -2,43 +2,21 @@
 // frequencies.
 #![tactic(auto)]
 
+mod curve;
 mod frequency;
 mod summary;
 
-ghost use Rattle.std.specs.Prelude.{◌≡◌, length};
-ghost use Rattle.complex.specs.Complex.{new_of};
+ghost use Rattle.std.specs.Prelude.{◌≡◌};
 ghost use Rattle.sweep.specs.Answer.{outcome_of};
-ghost use Rattle.nyquist.specs.Curve.{points, point_square, least_square, or_zero, distance_outcome};
+ghost use Rattle.nyquist.specs.Curve.{or_zero, distance_outcome};
 
+use curve::Curve;
 pub use frequency::fill_frequency_grid;
-pub use summary::{CurveFed, CurvePlain, CurveSummary};
-use sweep::{Answer, Check};
-
-// The square of the distance of (re, im) from (-1, 0).
-fn point_square(re: f64, im: f64) -> f64
-    ensures { result ≡ point_square (new_of re im) }
-{
-    let dr = re - -1.0;
-    dr * dr + im * im
-}
-
-// The least of the squares, and infinity where none is finite.
-fn least_square(re: &[f64], im: &[f64]) -> f64
-    requires { length re.now ≡ length im.now }
-    ensures { result ≡ least_square (points re.now im.now) }
-{
-    let n = re.len();
-    let mut least = f64::from_bits(0x7ff0_0000_0000_0000);
-    for i in 0..n {
-        let square = point_square(re[i], im[i]);
-        if square < least {
-            least = square;
-        }
-    }
-    least
-}
+pub use summary::{CurvePlain, CurveSummary};
+use sweep::FreqError;
 
 // The Rust's last step: 0 for a distance above f64::MAX / 2.0, where no point counted.
+#[tactic(auto, unfolding(crate::specs::Curve::or_zero))]
 fn or_zero(distance: f64) -> f64
     ensures { result ≡ or_zero distance }
 {
@@ -51,12 +29,10 @@ fn or_zero(distance: f64) -> f64
 
 // The least distance of the points (re[i], im[i]) from (-1, 0). The root keeps the order, so the least square has the
 // least root, and one root serves the whole curve.
-pub fn distance_to_critical(re: &[f64], im: &[f64]) -> Answer
+#[tactic(auto, using(crate::proofs::Answers::distance_refused, crate::proofs::Answers::distance_found))]
+pub fn distance_to_critical(re: &[f64], im: &[f64]) -> Result<Option<f64>, FreqError>
     ensures { outcome_of result ≡ distance_outcome re.now im.now }
 {
-    let n = re.len();
-    match sweep::check_scan(n == im.len(), n) {
-        Check::Refused(e) => Answer::Refused(e),
-        Check::Passed => Answer::Found(or_zero(scalar::sqrt(least_square(re, im)))),
-    }
+    let curve = Curve::new(re, im)?;
+    Ok(Some(or_zero(scalar::sqrt(curve.least_square()))))
 }
