@@ -1,7 +1,6 @@
-use Rattle.std.proofs.Common.{◌≡◌, refl, ◌∙◌}
+use Rattle.std.proofs.Common.{◌≡◌, refl, ap, ◌∙◌}
 use Rattle.laws.proofs.Loops.{up_begin, up_next, up_end}
 use Rattle.root_locus.specs.Search.{differences, one_round, Run, begun, run}
-use Rattle.root_locus.specs.Roots.{searched_array}
 use Rattle.root_locus.proofs.Rounds.{factor_taken, factor_left, raised, kept, root_skipped, root_moved, round_more, round_last, rounds_done}
 use Rattle.root_locus.proofs.durand_kerner.Goals as goal
 use Rattle.root_locus.proofs.durand_kerner.Goals.{then-j-i, else-j-i, then-change-max_change, else-change-max_change, else-rounds-test, then-rounds-test+else-roots-test+then-max_change}
@@ -44,16 +43,15 @@ rounds-preserved c =
     (refl, round_more _ 200 _ _ c.rounds.invariant.1 c.rounds-test.true e c.if-max_change.false)
 
 pub returns : goal.returns
-unfolding searched_array
 returns c =
     let left = c.rounds-test in
     let inv = c.rounds.invariant in
     let args = c.args in
-    let ran : ◌≡◌ {A = Run} (record { roots = left.z; used = left.used; last = left.last_change }) (run args.norm.now 200 (begun args.start)) =
+    let ran : ◌≡◌ {A = Run} (record { roots = left.z; used = left.used; last = left.last_change }) (run args.norm.now 200 (begun args.z.now)) =
     elim left.branch [
       | else-rounds-test w ↦ rw (w.z-is, w.used-is, w.last_change-is, inv.0) (rounds_done _ 200 _ inv.1 w.rounds-test.false)
       | then-rounds-test+else-roots-test+then-max_change w ↦
           let e = up_end _ _ w.roots.invariant w.roots-test.false in
           rw (w.z-is, w.used-is, w.last_change-is) (round_last _ 200 _ _ inv.1 w.rounds-test.true e w.if-max_change.true)
     ] in
-    rw (c.unless_nan-ending.ensures, c.end_of-end.ensures, ← ran)
+    record { roots = ap (λ (r : Run). r.roots) ran; ending = rw (c.of_rounds.ensures, ← ran) }

@@ -3,7 +3,7 @@ use Rattle.laws.specs.Loops.{filled}
 use Rattle.laws.proofs.Loops.{filled_none, filled_more, arrived}
 use Rattle.root_locus.specs.Polynomial.{nine_zeros}
 use Rattle.root_locus.proofs.Coefficients.{coefficient_first, coefficient_middle, coefficient_last}
-use Rattle.root_locus.proofs.loop_polynomial.Goals as goal
+use Rattle.root_locus.proofs.OpenLoop.loop_polynomial.Goals as goal
 
 pub loop-i-init : goal.loop-i-init
 loop-i-init c = (search rules, (search rules, filled_more _ nine_zeros (filled_none _ nine_zeros) (search rules) (coefficient_first _ _)))
