@@ -5,9 +5,11 @@ use Rattle.std.specs.Prelude.{not, Option, Some, None}
 use Rattle.std.specs.Option.{unwrap_or}
 use Rattle.std.specs.List.{position_or_len}
 use lib.Ieee.{Float, nan, binary64, add, mul, lt}
+use Rattle.laws.specs.Loops.{filled}
+use Rattle.laws.proofs.Loops.{take-filled}
 use Rattle.scalar.specs.Scalar.{f1, eps, abs_of}
 use Rattle.transfer_fn.specs.declared.TransferFn.{TransferFn}
-use Rattle.root_locus.specs.Polynomial.{coefficient, counting}
+use Rattle.root_locus.specs.Polynomial.{coefficient, nine_zeros, loop_polynomial, counting}
 
 -- the three kinds of coefficients
 module _ (tf : TransferFn) (k : Float) where
@@ -22,6 +24,11 @@ module _ (tf : TransferFn) (k : Float) where
   pub coefficient_last : 1 ≤ tf.order → get_or tf.a (tf.order - 1) nan ≡ coefficient tf k tf.order
   unfolding coefficient
   coefficient_last l = rw (ne_eqb tf.order 0 (λ (e : tf.order ≡ 0). omega arith), le-ltb tf.order tf.order (omega arith))
+
+  -- what is lent of the array
+  pub polynomial_lent : take (tf.order + 1) (filled (coefficient tf k) nine_zeros (tf.order + 1)) ≡ loop_polynomial tf k
+  unfolding loop_polynomial
+  polynomial_lent = take-filled (coefficient tf k) nine_zeros (tf.order + 1)
 
 -- ---- what is left from the first that counts
 abbrev pub counts : Float → Bool

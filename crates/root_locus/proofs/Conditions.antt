@@ -52,18 +52,15 @@ module _ (order : ℕ) (k-max : Float) (n i : ℕ) where
       let t4 = when_passed (eqb order 0) 16 (omega arith) t3.1 in
       let t5 = when_passed (ltb 4096 n) 15 (omega arith) t4.1 in
       let t6 = when_passed (leb n i) 17 (omega arith) t5.1 in
+      let some = eqb-false order 0 t4.0 in
       record {
         two = ltb-false n 2 t1.0;
-        least = some order (eqb-false order 0 t4.0);
+        least = omega arith;
         most = ltb-false 8 order t3.0;
         few = ltb-false 4096 n t5.0;
         index = leb-false n i t6.0;
         rest = λ degree. rw (t1.0, t2.0, t3.0, t4.0, t5.0, t6.0);
       }
-    where
-      some : (a : ℕ) → (a ≡ 0 → ⊥) → 1 ≤ a
-      some zero h = absurd (h refl)
-      some (suc a) h = omega arith
 
   -- a degree that is not turned away is not 3
   pub not_cubic : {degree : ℕ} → locus_refusal order k-max n i degree ≡ 0 → degree ≡ 3 → ⊥
@@ -100,6 +97,6 @@ module _ (tf : TransferFn) (k-max : Float) (n i : ℕ) where
       where
         go : (b : Bool) → ◌≡◌ {A = Result Roots FreqError} (Ok r) (cond b (Err CubicLeftOut) (Ok (record { z = padded (by_degree left); count = length (by_degree left); ending = ending_by_degree left })))
             → ◌≡◌ {A = Point} (record { number = 0; gain = gain_at k-max n i; count = r.count; poles = r.z; ending = r.ending })
-              (cond (eqb (when b 12 0) 0) (found_point (gain_at k-max n i) left) (no_point (when b 12 0)))
+            (cond (eqb (when b 12 0) 0) (found_point (gain_at k-max n i) left) (no_point (when b 12 0)))
         go true g = let k : ◌≡◌ {A = ℕ} 0 1 = cc in absurd (omega arith)
         go false g = let k : r ≡ record { z = padded (by_degree left); count = length (by_degree left); ending = ending_by_degree left } = cc in rw k

@@ -10,6 +10,7 @@ use Rattle.complex.specs.Complex.{from_real, magnitude_sq}
 use Rattle.std.specs.Prelude.{Result, Ok, Err, not}
 use Rattle.std.specs.List.{list_any}
 use Rattle.std.proofs.lemmas.List.Folds.{list_any_at}
+use Rattle.std.proofs.lemmas.Bool.{not-true}
 use Rattle.sweep.specs.Refusal.{number_of}
 use Rattle.sweep.specs.declared.FreqError.{FreqError}
 use Rattle.sweep.proofs.Numbers.{number_known}
@@ -32,11 +33,7 @@ use Rattle.root_locus.proofs.Endings.{NanIn, ending_broken, SettledIn, ending_se
 
 none_means : (zs : List Complex) → none_outside zs ≡ true → (i : ℕ) → i < length zs → outside (get_or zs i nowhere) ≡ false
 unfolding none_outside
-none_means zs h i l = go (outside (get_or zs i nowhere)) refl
-  where
-    go : (b : Bool) → outside (get_or zs i nowhere) ≡ b → b ≡ false
-    go true e = absurd (true≢false (sym (rw (list_any_at outside zs i nowhere l e) at h)))
-    go false e = refl
+none_means zs h i l = grind (arith, list_any_at, not-true)
 
 some_means : (zs : List Complex) → none_outside zs ≡ false → (i : ℕ) × ((i < length zs) × (outside (get_or zs i nowhere) ≡ true))
 unfolding none_outside
@@ -124,11 +121,7 @@ module _ (tf : TransferFn) (k-max : Float) (n i : ℕ) where
       formulas w = (omega (arith, w.1), (λ z. few (degree_of left) w.0 (not_cubic tf.order k-max n i h), λ l. w.1))
         where
           few : (d : ℕ) → d < 4 → (d ≡ 3 → ⊥) → d ≤ 2
-          few d l c = go (eqb d 3) refl
-            where
-              go : (b : Bool) → eqb d 3 ≡ b → d ≤ 2
-              go true f = absurd (c (eqb-true d 3 f))
-              go false f = let g = eqb-false d 3 f in omega arith
+          few d l c = omega arith
 
       rounds : (4 ≤ degree_of left) × SettledIn left k → (k ≤ 200) × ((k ≡ 0 → degree_of left ≤ 2) × (degree_of left ≤ 2 → k ≡ 0))
       rounds w = (w.1.most, (λ z. absurd (omega (arith, w.1.least)), λ l. absurd (omega (arith, w.0))))

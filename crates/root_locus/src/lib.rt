@@ -73,6 +73,7 @@ struct Roots {
 
 impl Roots {
     // These roots, found as `ending` says unless some part of one is NaN.
+    #[tactic(auto, unfolding(crate::specs::Roots::as_roots), using(crate::proofs::Padding::eight_padded))]
     fn new(roots: &[Complex], ending: Ending) -> Roots
         requires { length roots.now ≤ 8 }
         ensures { result ≡ as_roots roots.now ending }
@@ -103,6 +104,7 @@ fn first_point(degree: usize) -> usize
 }
 
 // The starting points of a degree.
+#[tactic(auto, unfolding(crate::specs::StartingPoints::starting_points, crate::specs::StartingPoints::starting_point, crate::specs::StartingPoints::start_table, crate::specs::StartingPoints::pair, crate::specs::StartingPoints::as_complex), using(laws::proofs::Loops::filled_none, laws::proofs::Loops::filled_more, laws::proofs::Loops::arrived, crate::proofs::Padding::filled_padded))]
 fn starting_points(degree: usize) -> [Complex; 8]
     requires { degree ≤ 8 }
     ensures { result ≡ padded (starting_points degree) }
@@ -131,7 +133,9 @@ fn eval_poly_complex(norm: &[f64], z: Complex) -> Complex
 
 // The method of Durand and Kerner: in up to 200 rounds each root moves by the polynomial's value there over the
 // product of its differences to the others, and the next one sees it moved. Where that product is too small the
-// root stays.
+// root stays. (The loops are nested and have labels by a rule of the project: a root that stays goes on by its label, and
+// a round that settles leaves the outer one.)
+#[tactic(auto, unfolding(crate::specs::Search::one_round, crate::specs::Search::differences), using(laws::proofs::Loops::up_begin, laws::proofs::Loops::up_next, laws::proofs::Loops::up_end, crate::proofs::Rounds::root_skipped, crate::proofs::Rounds::round_more))]
 fn durand_kerner(norm: &[f64], z: &mut [Complex]) -> Ending
     requires { length z.old ≡ length norm.now }
     ensures roots { z.new ≡ (run norm.now 200 (begun z.old)).roots }
@@ -171,6 +175,7 @@ fn durand_kerner(norm: &[f64], z: &mut [Complex]) -> Ending
 }
 
 // The roots of degrees 4 to 8: the search on the coefficients over the leading one.
+#[tactic(auto, unfolding(crate::specs::Roots::quotient_at), using(laws::proofs::Loops::filled_none, laws::proofs::Loops::filled_more))]
 fn companion_matrix_roots(lead: f64, rest: &[f64]) -> Roots
     requires { length rest.now ≤ 8 }
     ensures { result ≡ as_roots (searched (lead ∷ rest.now)) (search_end (lead ∷ rest.now)) }
@@ -225,7 +230,7 @@ struct Polynomial<'a> {
 
 impl Polynomial<'_> {
     // Its roots by the degree, where the first coefficient counts. Those of a cubic are left out.
-    #[tactic(auto, using(crate::proofs::ByDegree::case_none, crate::proofs::ByDegree::case_linear, crate::proofs::ByDegree::case_quadratic, crate::proofs::ByDegree::case_cubic, crate::proofs::ByDegree::case_searched))]
+    #[tactic(auto, using(crate::proofs::ByDegree::case_none, crate::proofs::ByDegree::case_linear, crate::proofs::ByDegree::case_quadratic, crate::proofs::ByDegree::case_cubic, crate::proofs::ByDegree::case_searched, crate::proofs::ByDegree::taken_apart))]
     fn degree_cases(self) -> Result<Roots, FreqError>
         ensures { result ≡ degree_cases self.entry.coeffs.now }
     {
@@ -264,6 +269,7 @@ struct OpenLoop {
 
 impl OpenLoop {
     // The loop polynomial at gain k, and zeros past its order.
+    #[tactic(auto, using(laws::proofs::Loops::filled_none, laws::proofs::Loops::filled_more, laws::proofs::Loops::arrived, crate::proofs::Coefficients::coefficient_first, crate::proofs::Coefficients::coefficient_middle, crate::proofs::Coefficients::coefficient_last))]
     fn loop_polynomial(&self, k: f64) -> [f64; 9]
         ensures { result ≡ filled (coefficient self.now.tf k) nine_zeros (self.now.tf.order + 1) }
     {
@@ -279,7 +285,7 @@ impl OpenLoop {
     }
 
     // The poles of the closed loop at gain k.
-    #[tactic(auto, unfolding(crate::specs::Polynomial::loop_polynomial))]
+    #[tactic(auto, using(crate::proofs::Coefficients::polynomial_lent))]
     fn closed_loop_poles(&self, k: f64) -> Result<Roots, FreqError>
         ensures { result ≡ degree_cases (counting (loop_polynomial self.now.tf k)) }
     {
@@ -291,7 +297,8 @@ impl OpenLoop {
     }
 }
 
-// Whether no counted pole lies on or outside the unit circle.
+// Whether no counted pole lies on or outside the unit circle. (Poles come as an array with a count, since the C interface
+// hands them on so; likewise in a locus point.)
 pub fn stability_region(poles: [Complex; 8], count: usize) -> bool
     ensures { result ≡ stable poles count }
 {

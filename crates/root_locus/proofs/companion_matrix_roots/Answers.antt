@@ -8,13 +8,6 @@ use Rattle.root_locus.proofs.Padding.{take_padded}
 use Rattle.root_locus.proofs.Rounds.{as_many, search_left}
 use Rattle.root_locus.proofs.companion_matrix_roots.Goals as goal
 
-pub loop-i-init : goal.loop-i-init
-loop-i-init c = (search rules, filled_none _ _)
-
-pub loop-i-preserved : goal.loop-i-preserved
-unfolding quotient_at
-loop-i-preserved c = (search rules, filled_more _ _ c.loop-i.invariant.1 (search rules) (simp unary_clauses refl))
-
 pub returns : goal.returns
 unfolding monic
 returns c =

@@ -5,14 +5,6 @@ use Rattle.root_locus.proofs.Rounds.{factor_taken, factor_left, raised, kept, ro
 use Rattle.root_locus.proofs.durand_kerner.Goals as goal
 use Rattle.root_locus.proofs.durand_kerner.Goals.{then-j-i, else-j-i, then-change-max_change, else-change-max_change, else-rounds-test, then-rounds-test+else-roots-test+then-max_change}
 
-pub roots-init : goal.roots-init
-unfolding one_round
-roots-init c = up_begin _ _ refl
-
-pub loop-j-init : goal.loop-j-init
-unfolding differences
-loop-j-init c = up_begin _ _ c.from_real-denom.ensures
-
 pub loop-j-preserved : goal.loop-j-preserved
 loop-j-preserved c =
     up_next _ _ c.loop-j.invariant c.loop-j-test.true
@@ -20,11 +12,6 @@ loop-j-preserved c =
       | then-j-i w ↦ factor_taken _ _ _ _ w.if-j-i.true w.sub.ensures (w.denom-is ∙ w.multiply-denom.ensures)
       | else-j-i w ↦ factor_left _ _ _ _ w.if-j-i.false w.denom-is
     ])
-
-pub roots-preserved-then-magnitude_sq : goal.roots-preserved-then-magnitude_sq
-roots-preserved-then-magnitude_sq c = up_next _ _ c.roots.invariant c.roots-test.true
-    (root_skipped _ _ _ _ c.eval_poly_complex-p_val.ensures (up_end _ _ c.loop-j.invariant c.loop-j-test.false)
-    c.magnitude_sq.ensures c.if-magnitude_sq.true)
 
 pub roots-preserved : goal.roots-preserved
 roots-preserved c =
@@ -36,11 +23,6 @@ roots-preserved c =
       | else-change-max_change w ↦ kept _ _ w.if-change-max_change.false w.max_change-is
     ])
     c.sub-in-roots.ensures)
-
-pub rounds-preserved : goal.rounds-preserved
-rounds-preserved c =
-    let e = up_end _ _ c.roots.invariant c.roots-test.false in
-    (refl, round_more _ 200 _ _ c.rounds.invariant.1 c.rounds-test.true e c.if-max_change.false)
 
 pub returns : goal.returns
 returns c =
