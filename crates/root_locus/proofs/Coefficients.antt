@@ -1,9 +1,15 @@
 -- The coefficients of the loop polynomial, and those of a polynomial from the first that counts. Assumes nothing.
-use Rattle.std.proofs.Common.{◌≡◌, ℕ, ◌+◌, ◌-◌, ◌<◌, ◌≤◌, true, false, List, length, get_or, take, drop, refl, add-one, arith, length-drop, drop_of_length-le, take_all, drop-cons, le-ltb, lt-ltb, ne_eqb}
+use Rattle.std.proofs.Common.{◌≡◌, ℕ, ◌+◌, ◌-◌, ◌<◌, ◌≤◌, Bool, true, false, cond, List, [], ◌∷◌, length, get_or, take, drop, refl, ◌∙◌, arith, length-drop, drop_of_length-le, take_all, ltb, le-ltb, lt-ltb, ltb-false, ne_eqb}
+use native.Mathlib.Numerals.{one-add}
+use Rattle.std.specs.Prelude.{not, Option, Some, None}
+use Rattle.std.specs.Option.{unwrap_or}
+use Rattle.std.specs.List.{position_or_len}
 use lib.Ieee.{Float, nan, binary64, add, mul, lt}
+use Rattle.laws.specs.Loops.{filled}
+use Rattle.laws.proofs.Loops.{take-filled}
 use Rattle.scalar.specs.Scalar.{f1, eps, abs_of}
 use Rattle.transfer_fn.specs.declared.TransferFn.{TransferFn}
-use Rattle.root_locus.specs.Polynomial.{coefficient, counting}
+use Rattle.root_locus.specs.Polynomial.{coefficient, nine_zeros, loop_polynomial, counting}
 
 -- the three kinds of coefficients
 module _ (tf : TransferFn) (k : Float) where
@@ -19,20 +25,33 @@ module _ (tf : TransferFn) (k : Float) where
   unfolding coefficient
   coefficient_last l = rw (ne_eqb tf.order 0 (λ (e : tf.order ≡ 0). omega arith), le-ltb tf.order tf.order (omega arith))
 
--- ---- dropping leading coefficients, one at a time
-module _ (p : List Float) (s : ℕ) where
-  pub counting_more : {a : Float} {w : List Float} → counting (drop s p) ≡ w → s < length p → a ≡ abs_of (get_or p s nan) → lt a eps ≡ true → counting (drop (s + 1) p) ≡ w
-  unfolding counting
-  counting_more inv h e t = rw add-one (rw (drop-cons p s nan h, ← e, t) at inv)
+  -- what is lent of the array
+  pub polynomial_lent : take (tf.order + 1) (filled (coefficient tf k) nine_zeros (tf.order + 1)) ≡ loop_polynomial tf k
+  unfolding loop_polynomial
+  polynomial_lent = take-filled (coefficient tf k) nine_zeros (tf.order + 1)
 
-  pub counting_here : {a : Float} → s < length p → a ≡ abs_of (get_or p s nan) → lt a eps ≡ false → counting (drop s p) ≡ drop s p
-  unfolding counting
-  counting_here h e t = rw (drop-cons p s nan h, ← e, t)
+-- ---- what is left from the first that counts
+abbrev pub counts : Float → Bool
+counts c = not (lt (abs_of c) eps)
 
-  pub counting_end : length p ≤ s → counting (drop s p) ≡ drop s p
-  unfolding counting
-  counting_end h = rw (drop_of_length-le p h)
+counting_from : (p : List Float) → drop (position_or_len counts p) p ≡ counting p
+unfolding counting
+counting_from [] = refl
+counting_from (c ∷ cs) = go (lt (abs_of c) eps) refl (counting_from cs)
+  where
+    go : (b : Bool) → lt (abs_of c) eps ≡ b → drop (position_or_len counts cs) cs ≡ counting cs → drop (position_or_len counts (c ∷ cs)) (c ∷ cs) ≡ cond b (counting cs) (c ∷ cs)
+    go true e next = rw (e, one-add) next
+    go false e next = rw e
 
-  -- what `&p[s..]` lends
-  pub part_from : take (length p - s) (drop s p) ≡ drop s p
-  part_from = take_all (length p - s) (drop s p) (rw length-drop (omega arith))
+-- what `&p[s..]` lends, where s is the place of the first that counts, or p's length
+pub counting_lent : (p : List Float) (r : Option ℕ) → r ≡ cond (ltb (position_or_len counts p) (length p)) (Some (position_or_len counts p)) None
+    → take (length p - unwrap_or r (length p)) (drop (unwrap_or r (length p)) p) ≡ counting p
+counting_lent p r h = rw h (go (ltb (position_or_len counts p) (length p)) refl)
+  where
+    part_from : (s : ℕ) → take (length p - s) (drop s p) ≡ drop s p
+    part_from s = take_all (length p - s) (drop s p) (rw length-drop (omega arith))
+
+    go : (b : Bool) → ltb (position_or_len counts p) (length p) ≡ b
+        → (let s = unwrap_or (cond b (Some (position_or_len counts p)) None) (length p) in take (length p - s) (drop s p)) ≡ counting p
+    go true e = part_from (position_or_len counts p) ∙ counting_from p
+    go false e = part_from (length p) ∙ rw (drop_of_length-le p {i = length p} (omega arith)) (rw (drop_of_length-le p {i = position_or_len counts p} (ltb-false _ _ e)) at (counting_from p))

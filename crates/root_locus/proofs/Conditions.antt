@@ -1,19 +1,22 @@
 -- The conditions of a locus point: those that are known before its polynomial, and the last one, on the degree that is left. Assumes nothing.
-use Rattle.std.proofs.Common.{◌≡◌, ℕ, zero, suc, ◌<◌, ◌≤◌, Bool, true, false, cond, eqb, ltb, leb, List, sym, refl, ap, ◌∙◌, arith, ltb-false, ne_eqb, leb-false}
+use Rattle.std.proofs.Common.{◌≡◌, ℕ, zero, suc, ◌<◌, ◌≤◌, Bool, true, false, cond, eqb, ltb, leb, List, length, sym, refl, ap, ◌∙◌, arith, ltb-false, ne_eqb, leb-false}
 use borrow.Author.Tests.{eqb-false}
 use lib.Ieee.{Float, le}
 use Rattle.laws.specs.Outcome.{when}
 use Rattle.laws.proofs.Outcome.{when_passed}
 use Rattle.scalar.specs.Scalar.{f0}
-use Rattle.sweep.specs.Refusal.{number_of, refusal_of}
+use Rattle.std.specs.Prelude.{Result, Ok, Err}
+use Rattle.sweep.specs.Refusal.{number_of}
 use Rattle.sweep.specs.declared.FreqError.{FreqError}
-use Rattle.sweep.specs.declared.Check.{Check}
-use Rattle.sweep.specs.declared.Check.TheVariants.{Passed, Refused}
-use Rattle.sweep.proofs.Numbers.{number_above, let_through}
+use Rattle.sweep.specs.declared.FreqError.TheVariants.{CubicLeftOut}
+use Rattle.sweep.proofs.Numbers.{number_above}
+use Rattle.sweep.proofs.Answers.{not_zero}
+use Rattle.root_locus.specs.declared.Roots.{Roots}
+use Rattle.root_locus.specs.Roots.{by_degree, ending_by_degree, padded, degree_cases}
 use Rattle.transfer_fn.specs.declared.TransferFn.{TransferFn}
 use Rattle.root_locus.specs.Gain.{gain_at}
 use Rattle.root_locus.specs.Polynomial.{loop_polynomial, counting, degree_of}
-use Rattle.root_locus.specs.Locus.{locus_refusal, found_point, no_point, left_point, point_at, locus_point_at}
+use Rattle.root_locus.specs.Locus.{locus_refusal, Point, found_point, no_point, point_of, point_at, locus_point_at}
 
 -- a number above 0 that one of the first conditions gave stays what it is, whatever stands behind them
 when_kept : (test : Bool) (n : ℕ) {x y m : ℕ} → (x ≡ m → y ≡ m) → when test n x ≡ m → when test n y ≡ m
@@ -40,7 +43,7 @@ module _ (order : ℕ) (k-max : Float) (n i : ℕ) where
     pub index : i < n
     pub rest : (degree : ℕ) → locus_refusal order k-max n i degree ≡ when (eqb degree 3) 12 0
 
-  passing : locus_refusal order k-max n i 0 ≡ 0 → Passing
+  pub passing : locus_refusal order k-max n i 0 ≡ 0 → Passing
   unfolding locus_refusal
   passing h =
       let t1 = when_passed (ltb n 2) 1 (omega arith) h in
@@ -49,21 +52,15 @@ module _ (order : ℕ) (k-max : Float) (n i : ℕ) where
       let t4 = when_passed (eqb order 0) 16 (omega arith) t3.1 in
       let t5 = when_passed (ltb 4096 n) 15 (omega arith) t4.1 in
       let t6 = when_passed (leb n i) 17 (omega arith) t5.1 in
+      let some = eqb-false order 0 t4.0 in
       record {
         two = ltb-false n 2 t1.0;
-        least = some order (eqb-false order 0 t4.0);
+        least = omega arith;
         most = ltb-false 8 order t3.0;
         few = ltb-false 4096 n t5.0;
         index = leb-false n i t6.0;
         rest = λ degree. rw (t1.0, t2.0, t3.0, t4.0, t5.0, t6.0);
       }
-    where
-      some : (a : ℕ) → (a ≡ 0 → ⊥) → 1 ≤ a
-      some zero h = absurd (h refl)
-      some (suc a) h = omega arith
-
-  pub let_pass : {k : Check} → refusal_of k ≡ locus_refusal order k-max n i 0 → k ≡ Passed → Passing
-  let_pass given h = passing (let_through given h)
 
   -- a degree that is not turned away is not 3
   pub not_cubic : {degree : ℕ} → locus_refusal order k-max n i degree ≡ 0 → degree ≡ 3 → ⊥
@@ -74,27 +71,32 @@ module _ (order : ℕ) (k-max : Float) (n i : ℕ) where
       go (suc m) k = absurd (omega (arith, refused_before k (omega arith) degree))
 
 -- ---- the point by its conditions
-point_refused : {n : ℕ} (gain : Float) (p : List Float) → 0 < n → no_point n ≡ point_at n gain p
-unfolding point_at
-point_refused {n} gain p l = rw (ne_eqb n 0 (λ (e : n ≡ 0). omega arith))
-
-last_condition : (gain : Float) (p : List Float) → left_point gain p ≡ point_at (when (eqb (degree_of p) 3) 12 0) gain p
-unfolding left_point point_at
-last_condition gain p = go (eqb (degree_of p) 3)
-  where
-    go : (b : Bool) → cond b (no_point 12) (found_point gain p) ≡ cond (eqb (when b 12 0) 0) (found_point gain p) (no_point (when b 12 0))
-    go true = refl
-    go false = refl
-
 module _ (tf : TransferFn) (k-max : Float) (n i : ℕ) where
-  pub point_turned_away : {k : Check} {e : FreqError} → refusal_of k ≡ locus_refusal tf.order k-max n i 0 → k ≡ Refused e → no_point (number_of e) ≡ locus_point_at tf k-max n i
-  unfolding locus_point_at
-  point_turned_away {e = e} given h =
-      let left = counting (loop_polynomial tf (gain_at k-max n i)) in
-      rw (refused_before tf.order k-max n i (sym given ∙ ap refusal_of h) (number_above e) (degree_of left)) (point_refused _ _ (number_above e))
+  abbrev left : List Float
+  left = counting (loop_polynomial tf (gain_at k-max n i))
 
-  pub point_let_through : Passing tf.order k-max n i → left_point (gain_at k-max n i) (counting (loop_polynomial tf (gain_at k-max n i))) ≡ locus_point_at tf k-max n i
-  unfolding locus_point_at
-  point_let_through h =
-      let left = counting (loop_polynomial tf (gain_at k-max n i)) in
-      rw (h.rest (degree_of left)) (last_condition (gain_at k-max n i) left)
+  -- turned away by the first ones
+  pub point_turned_away : (e : FreqError) → number_of e ≡ locus_refusal tf.order k-max n i 0 → point_of (Err e) ≡ locus_point_at tf k-max n i
+  unfolding locus_point_at point_at point_of
+  point_turned_away e given = rw (refused_before tf.order k-max n i (sym given) (number_above e) (degree_of left)) (rw (ne_eqb (number_of e) 0 (not_zero e)))
+
+  -- let through by them: what the degree cases gave says the rest
+  module _ (h : 0 ≡ locus_refusal tf.order k-max n i 0) where
+    pub point_cubic : (e : FreqError) → Err e ≡ degree_cases left → point_of (Err e) ≡ locus_point_at tf k-max n i
+    unfolding locus_point_at point_at point_of degree_cases
+    point_cubic e given = rw (passing tf.order k-max n i (sym h)).rest (go (eqb (degree_of left) 3) _ given)
+      where
+        go : (b : Bool) (r : Roots) → ◌≡◌ {A = Result Roots FreqError} (Err e) (cond b (Err CubicLeftOut) (Ok r)) → no_point (number_of e) ≡ cond (eqb (when b 12 0) 0) (found_point (gain_at k-max n i) left) (no_point (when b 12 0))
+        go true r g = let k : e ≡ CubicLeftOut = cc in rw k
+        go false r g = let k : ◌≡◌ {A = ℕ} 0 1 = cc in absurd (omega arith)
+
+    pub point_let_through : (r : Roots) → Ok r ≡ degree_cases left
+        → point_of (Ok (record { gain = gain_at k-max n i; poles = r.z; count = r.count; ending = r.ending })) ≡ locus_point_at tf k-max n i
+    unfolding locus_point_at point_at point_of degree_cases found_point
+    point_let_through r given = rw (passing tf.order k-max n i (sym h)).rest (go (eqb (degree_of left) 3) given)
+      where
+        go : (b : Bool) → ◌≡◌ {A = Result Roots FreqError} (Ok r) (cond b (Err CubicLeftOut) (Ok (record { z = padded (by_degree left); count = length (by_degree left); ending = ending_by_degree left })))
+            → ◌≡◌ {A = Point} (record { number = 0; gain = gain_at k-max n i; count = r.count; poles = r.z; ending = r.ending })
+            (cond (eqb (when b 12 0) 0) (found_point (gain_at k-max n i) left) (no_point (when b 12 0)))
+        go true g = let k : ◌≡◌ {A = ℕ} 0 1 = cc in absurd (omega arith)
+        go false g = let k : r ≡ record { z = padded (by_degree left); count = length (by_degree left); ending = ending_by_degree left } = cc in rw k

@@ -1,6 +1,7 @@
 -- What the ending of a search says of it: broken exactly where some part of a pole is NaN; settled and spent by the rounds themselves, one after the other,
 -- whatever their changes. Assumes nothing.
 use Rattle.std.proofs.Common.{◌≡◌, ℕ, zero, suc, ◌+◌, ◌-◌, ◌^◌, ◌<◌, ◌≤◌, Bool, true, false, cond, ◌||◌, ltb, ◌⊎◌, List, [], ◌∷◌, length, get_or, pos, sym, refl, ap, ◌∙◌, inl, inr, ⊎_elim, true≢false, arith, le→leb, ltb-false, ltb-true}
+use Rattle.std.proofs.lemmas.List.Folds.{list_any_at}
 use lib.Ieee.{Float, binary64, lt, is_nan, in_float, of_int, to_unsigned}
 use lib.Ieee.Back.{unsigned_back}
 use Rattle.complex.specs.declared.Complex.{Complex}
@@ -11,7 +12,7 @@ use Rattle.root_locus.specs.StartingPoints.{starting_points}
 use Rattle.root_locus.specs.Search.{tolerance, nowhere, Run, begun, further, run, after, change_after}
 use Rattle.root_locus.specs.Ending.{some_nan, unless_nan, end_of, ending_value}
 use Rattle.root_locus.specs.Roots.{monic, search_run, by_degree, search_end, ending_by_degree}
-use Rattle.root_locus.proofs.Padding.{search_roots}
+use Rattle.root_locus.proofs.Rounds.{search_roots}
 use Rattle.root_locus.proofs.ByDegree.{by_search}
 
 -- ---- broken
@@ -27,23 +28,18 @@ unfolding some_nan
 nan_found [] h = absurd (true≢false (sym h))
 nan_found (z ∷ zs) h = go (is_nan z.re) (is_nan z.im) refl refl h (nan_found zs)
   where
-    go : (a b : Bool) → is_nan z.re ≡ a → is_nan z.im ≡ b → a || b || some_nan zs ≡ true → (some_nan zs ≡ true → NanIn zs) → NanIn (z ∷ zs)
+    go : (a b : Bool) → is_nan z.re ≡ a → is_nan z.im ≡ b → (a || b) || some_nan zs ≡ true → (some_nan zs ≡ true → NanIn zs) → NanIn (z ∷ zs)
     go true b e f h next = record { j = 0; counted = omega arith; part = inl e }
     go false true e f h next = record { j = 0; counted = omega arith; part = inr f }
     go false false e f h next = let n = next h in record { j = suc n.j; counted = omega arith; part = n.part }
 
 pub nan_seen : (zs : List Complex) (n : NanIn zs) → some_nan zs ≡ true
 unfolding some_nan
-nan_seen [] n = absurd (omega (arith, n.counted))
-nan_seen (z ∷ zs) n = go n.j n.counted n.part (is_nan z.re) (is_nan z.im) refl refl (nan_seen zs)
+nan_seen zs n = list_any_at (λ (z : Complex). is_nan z.re || is_nan z.im) zs n.j nowhere n.counted (⊎_elim (λ e. rw e) (λ e. either (is_nan (get_or zs n.j nowhere).re) e) n.part)
   where
-    go : (j : ℕ) → j < length (z ∷ zs) → (is_nan (get_or (z ∷ zs) j nowhere).re ≡ true) ⊎ (is_nan (get_or (z ∷ zs) j nowhere).im ≡ true) → (a b : Bool) → is_nan z.re ≡ a
-        → is_nan z.im ≡ b → (NanIn zs → some_nan zs ≡ true) → a || b || some_nan zs ≡ true
-    go j l part true b e f next = refl
-    go j l part false true e f next = refl
-    go zero l (inl t) false false e f next = absurd (true≢false (sym t ∙ e))
-    go zero l (inr t) false false e f next = absurd (true≢false (sym t ∙ f))
-    go (suc j) l part false false e f next = next (record { j = j; counted = omega arith; part = part })
+    either : (a : Bool) {b : Bool} → b ≡ true → (a || b) ≡ true
+    either true e = refl
+    either false e = e
 
 settled_not_broken : {k : ℕ} → Settled k ≡ Broken → ⊥
 settled_not_broken h = let i : ◌≡◌ {A = ℕ} 0 1 = cc in absurd (omega arith)

@@ -1,5 +1,5 @@
 -- Laws of poles and of locus points that a reader will look for. Assumes nothing.
-use Rattle.std.proofs.Common.{◌≡◌, ℕ, zero, suc, ◌+◌, ◌-◌, ◌<◌, ◌≤◌, min, Bool, true, false, cond, eqb, List, [], ◌∷◌, length, get_or, take, replicate, sym, refl, ap, ◌∙◌, ⊎_elim, true≢false, arith, length-take, get_or-take, take_at, get_or-append-add, ne_eqb, eqb-true}
+use Rattle.std.proofs.Common.{◌≡◌, ℕ, zero, suc, ◌+◌, ◌-◌, ◌<◌, ◌≤◌, min, Bool, true, false, cond, ◌||◌, eqb, List, [], ◌∷◌, length, get_or, take, replicate, sym, refl, ap, ◌∙◌, ⊎_elim, true≢false, arith, length-take, get_or-take, take_at, get_or-append-add, ne_eqb, eqb-true}
 use borrow.Author.Tests.{eqb-false}
 use lib.ListN.{get_or-replicate}
 use lib.Ieee.{Float, le, lt}
@@ -7,8 +7,14 @@ use Rattle.laws.proofs.Loops.{length-up_to}
 use Rattle.scalar.specs.Scalar.{f0, f1}
 use Rattle.complex.specs.declared.Complex.{Complex}
 use Rattle.complex.specs.Complex.{from_real, magnitude_sq}
-use Rattle.sweep.specs.declared.Check.{Check}
-use Rattle.sweep.proofs.Numbers.{check_known}
+use Rattle.std.specs.Prelude.{Result, Ok, Err, not}
+use Rattle.std.specs.List.{list_any}
+use Rattle.std.proofs.lemmas.List.Folds.{list_any_at}
+use Rattle.std.proofs.lemmas.Bool.{not-true}
+use Rattle.sweep.specs.Refusal.{number_of}
+use Rattle.sweep.specs.declared.FreqError.{FreqError}
+use Rattle.sweep.proofs.Numbers.{number_known}
+use Rattle.sweep.proofs.Answers.{not_zero}
 use Rattle.transfer_fn.specs.declared.TransferFn.{TransferFn}
 use Rattle.root_locus.specs.declared.LocusPoint.{LocusPoint}
 use Rattle.root_locus.specs.declared.ending.Ending.{Ending}
@@ -19,7 +25,7 @@ use Rattle.root_locus.specs.Search.{tolerance, nowhere}
 use Rattle.root_locus.specs.Roots.{linear, discriminant, real_pair, complex_pair, quadratic, quotient_at, monic, searched, by_degree, ending_by_degree, padded}
 use Rattle.root_locus.specs.Stability.{outside, none_outside, stable}
 use Rattle.root_locus.specs.Locus.{locus_refusal, Point, point_of, found_point, no_point, point_at, locus_point_at}
-use Rattle.root_locus.proofs.Padding.{search_long}
+use Rattle.root_locus.proofs.Rounds.{search_long}
 use Rattle.root_locus.proofs.Conditions.{not_cubic}
 use Rattle.root_locus.proofs.Endings.{NanIn, ending_broken, SettledIn, ending_settled, spent_not_below}
 
@@ -27,24 +33,14 @@ use Rattle.root_locus.proofs.Endings.{NanIn, ending_broken, SettledIn, ending_se
 
 none_means : (zs : List Complex) → none_outside zs ≡ true → (i : ℕ) → i < length zs → outside (get_or zs i nowhere) ≡ false
 unfolding none_outside
-none_means [] h i l = absurd (omega arith)
-none_means (z ∷ zs) h zero l = go (outside z) h
-  where
-    go : (b : Bool) → cond b false (none_outside zs) ≡ true → b ≡ false
-    go true h = absurd (true≢false (sym h))
-    go false h = refl
-none_means (z ∷ zs) h (suc i) l = none_means zs (go (outside z) h) i (omega arith)
-  where
-    go : (b : Bool) → cond b false (none_outside zs) ≡ true → none_outside zs ≡ true
-    go true h = absurd (true≢false (sym h))
-    go false h = h
+none_means zs h i l = grind (arith, list_any_at, not-true)
 
 some_means : (zs : List Complex) → none_outside zs ≡ false → (i : ℕ) × ((i < length zs) × (outside (get_or zs i nowhere) ≡ true))
 unfolding none_outside
 some_means [] h = absurd (true≢false h)
 some_means (z ∷ zs) h = go (outside z) refl h (some_means zs)
   where
-    go : (b : Bool) → outside z ≡ b → cond b false (none_outside zs) ≡ false → (none_outside zs ≡ false → (i : ℕ) × ((i < length zs) × (outside (get_or zs i nowhere) ≡ true)))
+    go : (b : Bool) → outside z ≡ b → not (b || list_any outside zs) ≡ false → (not (list_any outside zs) ≡ false → (i : ℕ) × ((i < length zs) × (outside (get_or zs i nowhere) ≡ true)))
         → (i : ℕ) × ((i < length (z ∷ zs)) × (outside (get_or (z ∷ zs) i nowhere) ≡ true))
     go true e h next = (zero, (omega arith, e))
     go false e h next = let n = next h in (suc n.0, (omega arith, n.1.1))
@@ -81,7 +77,7 @@ pole_count (c ∷ d ∷ e ∷ f ∷ []) h = absurd (h refl)
 pole_count (c ∷ d ∷ e ∷ f ∷ g ∷ p) h = found (c ∷ d ∷ e ∷ f ∷ g ∷ p)
   where
     found : (q : List Float) → length (searched q) ≡ degree_of q
-    found q = search_long q ∙ unfold monic in length-up_to (quotient_at q) (degree_of q)
+    found q = search_long q
 
 -- ---- a locus point
 module _ (tf : TransferFn) (k-max : Float) (n i : ℕ) where
@@ -125,11 +121,7 @@ module _ (tf : TransferFn) (k-max : Float) (n i : ℕ) where
       formulas w = (omega (arith, w.1), (λ z. few (degree_of left) w.0 (not_cubic tf.order k-max n i h), λ l. w.1))
         where
           few : (d : ℕ) → d < 4 → (d ≡ 3 → ⊥) → d ≤ 2
-          few d l c = go (eqb d 3) refl
-            where
-              go : (b : Bool) → eqb d 3 ≡ b → d ≤ 2
-              go true f = absurd (c (eqb-true d 3 f))
-              go false f = let g = eqb-false d 3 f in omega arith
+          few d l c = omega arith
 
       rounds : (4 ≤ degree_of left) × SettledIn left k → (k ≤ 200) × ((k ≡ 0 → degree_of left ≤ 2) × (degree_of left ≤ 2 → k ≡ 0))
       rounds w = (w.1.most, (λ z. absurd (omega (arith, w.1.least)), λ l. absurd (omega (arith, w.0))))
@@ -152,19 +144,20 @@ past_count zs j h l =
     rw (e, get_or-append-add zs (replicate (8 - length zs) (from_real f0)) m nowhere) (get_or-replicate (8 - length zs) m (from_real f0) nowhere (omega arith))
 
 -- a locus point is known by what it comes to
-pub point_known : (p q : LocusPoint) → point_of p ≡ point_of q → p ≡ q
-unfolding point_of
-point_known p q h =
-    let a : p.check ≡ q.check = check_known p.check q.check (ap (λ (o : Point). o.number) h) in
+pub point_known : (p q : Result LocusPoint FreqError) → point_of p ≡ point_of q → p ≡ q
+unfolding point_of no_point
+point_known (Ok p) (Ok q) h =
     let b : p.gain ≡ q.gain = ap (λ (o : Point). o.gain) h in
     let c : p.poles ≡ q.poles = ap (λ (o : Point). o.poles) h in
     let d : p.count ≡ q.count = ap (λ (o : Point). o.count) h in
     let e : p.ending ≡ q.ending = ap (λ (o : Point). o.ending) h in
-    made a b c d e
+    made b c d e
   where
-    of : Check → Float → List Complex → ℕ → Ending → LocusPoint
-    of a b c d e = record { check = a; gain = b; poles = c; count = d; ending = e }
+    of : Float → List Complex → ℕ → Ending → Result LocusPoint FreqError
+    of b c d e = Ok (record { gain = b; poles = c; count = d; ending = e })
 
-    made : {a a' : Check} {b b' : Float} {c c' : List Complex} {d d' : ℕ} {e e' : Ending} → a ≡ a' → b ≡ b' → c ≡ c' → d ≡ d' → e ≡ e'
-        → of a b c d e ≡ of a' b' c' d' e'
-    made f g h i j = rw (f, g, h, i, j)
+    made : {b b' : Float} {c c' : List Complex} {d d' : ℕ} {e e' : Ending} → b ≡ b' → c ≡ c' → d ≡ d' → e ≡ e' → of b c d e ≡ of b' c' d' e'
+    made g h i j = rw (g, h, i, j)
+point_known (Ok p) (Err e) h = let n : 0 ≡ number_of e = ap (λ (o : Point). o.number) h in absurd (not_zero e (sym n))
+point_known (Err e) (Ok q) h = let n : number_of e ≡ 0 = ap (λ (o : Point). o.number) h in absurd (not_zero e n)
+point_known (Err e) (Err f) h = ap Err (number_known e f (ap (λ (o : Point). o.number) h))

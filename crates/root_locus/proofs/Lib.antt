@@ -1,11 +1,8 @@
-pub mod Lists
 pub mod Coefficients
 pub mod Rounds
-pub mod Nans
 pub mod Padding
 pub mod ByDegree
 pub mod Table
-pub mod Poles
 pub mod Conditions
 pub mod Endings
 pub mod Laws

@@ -1,11 +1,23 @@
 -- The steps of the root search as the program takes them: what it has computed is the definition's next state. Assumes nothing.
-use Rattle.std.proofs.Common.{◌≡◌, ℕ, zero, suc, ◌+◌, ◌-◌, ◌<◌, ◌≤◌, Bool, true, false, cond, List, length, get_or, set, refl, arith, eq-eqb, ne_eqb}
-use lib.Ieee.{Float, lt}
+use Rattle.std.proofs.Common.{◌≡◌, ℕ, zero, suc, ◌+◌, ◌-◌, ◌<◌, ◌≤◌, Bool, true, false, cond, List, ◌++◌, length, get_or, set, take, drop, take_at, add-one, drop-cons, refl, ◌∙◌, arith, eq-eqb, ne_eqb, length-set}
+use lib.Ieee.{Float, nan, binary64, add, lt}
+use Rattle.laws.specs.Loops.{count_up, push_all}
 use Rattle.laws.specs.Choice.{greater}
-use Rattle.scalar.specs.Scalar.{eps}
+use Rattle.laws.proofs.Loops.{length-up_to}
+use Rattle.scalar.specs.Scalar.{f0, eps}
 use Rattle.complex.specs.declared.Complex.{Complex}
-use Rattle.complex.specs.Complex.{product, difference, magnitude_sq, magnitude_of, small, quotient_or_zero}
-use Rattle.root_locus.specs.Search.{tolerance, nowhere, eval_poly, factor, differences, Round, moved, move_root, one_round, rounds, Run, further, run}
+use Rattle.complex.specs.Complex.{product, difference, magnitude_sq, magnitude_of, small, ratio, quotient_or_zero}
+use Rattle.root_locus.specs.Polynomial.{degree_of}
+use Rattle.root_locus.specs.StartingPoints.{starting_point, starting_points}
+use Rattle.root_locus.specs.Search.{tolerance, nowhere, horner, eval_poly, factor, differences, Round, moved, move_root, one_round, rounds, Run, begun, further, run}
+use Rattle.root_locus.specs.Ending.{end_of}
+use Rattle.root_locus.specs.Roots.{monic, searched, search_run, search_end, as_roots}
+
+-- Horner's rule, one coefficient on
+pub horner_next : (norm : List Float) (z acc : Complex) (k : ℕ) {w : Complex} → push_all (horner z) acc (drop k norm) ≡ w → k < length norm
+    → push_all (horner z) (record { re = add binary64 (product acc z).re (get_or norm k nan); im = (product acc z).im }) (drop (k + 1) norm) ≡ w
+unfolding horner
+horner_next norm z acc k inv h = rw add-one (rw (drop-cons norm k nan h) at inv)
 
 -- the product of the differences, one factor on, or none where j is i
 module _ (z : List Complex) (i j : ℕ) (acc : Complex) where
@@ -61,6 +73,34 @@ pub rounds_done : (norm : List Float) (n : ℕ) (s : Run) {k : ℕ} {w : Run} �
 unfolding run
 rounds_done norm n s {k} inv h = let f : n - k ≡ zero = omega arith in rw f at inv
 
+-- ---- no round adds a root or drops one
+module _ (norm : List Float) where
+  move_long : (i : ℕ) (s : Round) → length (move_root norm i s).roots ≡ length s.roots
+  unfolding move_root moved
+  move_long i s = go (small (differences (length norm) s.roots i)) (ratio (eval_poly norm (get_or s.roots i nowhere)) (differences (length norm) s.roots i))
+    where
+      go : (b : Bool) (u : Complex) → length (cond b s (moved i u s)).roots ≡ length s.roots
+      go true u = refl
+      go false u = length-set s.roots i _
+
+  moves_long : (n i : ℕ) (s : Round) → length (count_up (move_root norm) n i s).roots ≡ length s.roots
+  unfolding count_up
+  moves_long zero i s = refl
+  moves_long (suc n) i s = moves_long n (suc i) (move_root norm i s) ∙ move_long i s
+
+  further_long : (s : Run) → length (further norm s).roots ≡ length s.roots
+  unfolding further one_round
+  further_long s = moves_long (length norm) 0 (record { roots = s.roots; largest = f0 })
+
+  pub run_long : (n : ℕ) (s : Run) → length (run norm n s).roots ≡ length s.roots
+  unfolding run
+  run_long zero s = refl
+  run_long (suc n) s = let t = further norm s in go (lt t.last tolerance) t (run_long n t) ∙ further_long s
+    where
+      go : (b : Bool) (t : Run) → length (run norm n t).roots ≡ length t.roots → length (cond b t (run norm n t)).roots ≡ length t.roots
+      go true t e = refl
+      go false t e = e
+
 -- The roots that a run leaves are those of `rounds`.
 pub run_roots : (norm : List Float) (n : ℕ) (s : Run) → (run norm n s).roots ≡ rounds norm n s.roots
 unfolding run further rounds
@@ -70,3 +110,25 @@ run_roots norm (suc n) s = go (lt (one_round norm s.roots).largest tolerance) (f
     go : (b : Bool) (t : Run) → (run norm n t).roots ≡ rounds norm n t.roots → (cond b t (run norm n t)).roots ≡ cond b t.roots (rounds norm n t.roots)
     go true t e = refl
     go false t e = e
+
+-- ---- the search by its run
+module _ (p : List Float) where
+  -- as many starting points as the degree
+  pub as_many : length (starting_points (degree_of p)) ≡ degree_of p
+  unfolding starting_points
+  as_many = length-up_to (starting_point (degree_of p)) (degree_of p)
+
+  -- the roots of the run are the search's
+  pub search_roots : (search_run p).roots ≡ searched p
+  unfolding search_run searched
+  search_roots = run_roots (monic p) 200 (begun (starting_points (degree_of p)))
+
+  pub search_long : length (searched p) ≡ degree_of p
+  unfolding search_run
+  search_long = rw (← search_roots) (run_long (monic p) 200 (begun (starting_points (degree_of p))) ∙ as_many)
+
+  -- what the search leaves in an array
+  pub search_left : (n : ℕ) (tail : List Complex) → degree_of p ≡ n → let r = run (monic p) 200 (begun (starting_points n)) in
+      as_roots (take n (r.roots ++ tail)) (end_of r.used r.last) ≡ as_roots (searched p) (search_end p)
+  unfolding search_run search_end
+  search_left n tail h = rw (← h, search_roots, take_at (searched p) tail (degree_of p) search_long)

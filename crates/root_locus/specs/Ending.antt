@@ -1,5 +1,6 @@
 -- How the search for poles ended, by W1 of document 02, and as numbers for a host. Definitions only.
-use Rattle.std.specs.Prelude.{ℕ, Bool, false, cond, ◌||◌, List, [], ◌∷◌, pos, is_nan, Float}
+use Rattle.std.specs.Prelude.{ℕ, Bool, cond, ◌||◌, List, pos, is_nan, Float}
+use Rattle.std.specs.List.{list_any}
 use Rattle.std.specs.Float.{binary64}
 use Rattle.std.specs.Float.Ieee.{lt, of_int}
 use Rattle.scalar.specs.Scalar.{f0}
@@ -10,8 +11,7 @@ use Rattle.root_locus.specs.Search.{tolerance}
 
 -- some part of a pole is NaN
 unfoldable pub some_nan : List Complex → Bool
-some_nan [] = false
-some_nan (z ∷ zs) = is_nan z.re || is_nan z.im || some_nan zs
+some_nan zs = list_any (λ (z : Complex). is_nan z.re || is_nan z.im) zs
 
 -- broken where some part is NaN, which comes first; else e
 unfoldable pub unless_nan : List Complex → Ending → Ending

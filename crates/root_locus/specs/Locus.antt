@@ -1,10 +1,11 @@
 -- The points of the root locus, in the numbers of document 01. Definitions only.
-use Rattle.std.specs.Prelude.{ℕ, cond, List, [], length, ◌==◌, nat_le, nat_lt, Float}
+use Rattle.std.specs.Prelude.{ℕ, cond, List, [], Result, Ok, Err, length, ◌==◌, nat_le, nat_lt, Float}
 use Rattle.std.specs.Float.Ieee.{le}
 use Rattle.laws.specs.Outcome.{when}
 use Rattle.scalar.specs.Scalar.{f0}
 use Rattle.complex.specs.declared.Complex.{Complex}
-use Rattle.sweep.specs.Refusal.{refusal_of}
+use Rattle.sweep.specs.Refusal.{number_of}
+use Rattle.sweep.specs.declared.FreqError.{FreqError}
 use Rattle.transfer_fn.specs.declared.TransferFn.{TransferFn}
 use Rattle.root_locus.specs.declared.LocusPoint.{LocusPoint}
 use Rattle.root_locus.specs.declared.ending.Ending.{Ending}
@@ -32,10 +33,6 @@ pub record Point : Type 0 where
   pub poles : List Complex
   pub ending : Ending
 
--- what the program answers, in these terms
-unfoldable pub point_of : LocusPoint → Point
-point_of p = record { number = refusal_of p.check; gain = p.gain; count = p.count; poles = p.poles; ending = p.ending }
-
 -- the gain, the poles of what is left of the polynomial, p, with (0, 0) in the places past them, and the ending
 unfoldable pub found_point : Float → List Float → Point
 found_point gain p = record { number = 0; gain = gain; count = length (by_degree p); poles = padded (by_degree p); ending = ending_by_degree p }
@@ -44,9 +41,10 @@ found_point gain p = record { number = 0; gain = gain; count = length (by_degree
 unfoldable pub no_point : ℕ → Point
 no_point n = record { number = n; gain = f0; count = 0; poles = padded []; ending = Settled 0 }
 
--- the point whose polynomial is left with the coefficients p, under the conditions that are known before
-unfoldable pub left_point : Float → List Float → Point
-left_point gain p = cond (degree_of p == 3) (no_point 12) (found_point gain p)
+-- what the program answers, in these terms
+unfoldable pub point_of : Result LocusPoint FreqError → Point
+point_of (Ok p) = record { number = 0; gain = p.gain; count = p.count; poles = p.poles; ending = p.ending }
+point_of (Err e) = no_point (number_of e)
 
 -- the point under conditions that gave n
 unfoldable pub point_at : ℕ → Float → List Float → Point

@@ -1,6 +1,6 @@
 -- The roots of a polynomial by its degree, as a list that is as long as there are roots. Roots are here what the formulas and the search give; that the
 -- polynomial is 0 there is said nowhere, and need not be so. Definitions only.
-use Rattle.std.specs.Prelude.{ℕ, ◌+◌, ◌-◌, Bool, false, cond, List, [], ◌∷◌, ◌++◌, length, take, replicate, ◌==◌, from_bits, nat_lt, slice_index_or, Float}
+use Rattle.std.specs.Prelude.{ℕ, ◌+◌, ◌-◌, cond, List, [], ◌∷◌, ◌++◌, Result, Ok, Err, length, replicate, ◌==◌, from_bits, nat_lt, slice_index_or, Float}
 use Rattle.std.specs.Float.{nan, binary64}
 use Rattle.std.specs.Float.Ieee.{add, sub, mul, div, neg, le}
 use Rattle.laws.specs.Loops.{up_to}
@@ -8,6 +8,8 @@ use Rattle.scalar.specs.Scalar.{f0}
 use Rattle.scalar.specs.Sqrt.{sqrt_of}
 use Rattle.complex.specs.declared.Complex.{Complex}
 use Rattle.complex.specs.Complex.{new_of, from_real}
+use Rattle.sweep.specs.declared.FreqError.{FreqError}
+use Rattle.sweep.specs.declared.FreqError.TheVariants.{CubicLeftOut}
 use Rattle.root_locus.specs.declared.Roots.{Roots}
 use Rattle.root_locus.specs.declared.ending.Ending.{Ending}
 use Rattle.root_locus.specs.declared.ending.Ending.TheVariants.{Settled}
@@ -87,20 +89,11 @@ ending_by_degree p = unless_nan (by_degree p) (cond (nat_lt (degree_of p) 4) (Se
 unfoldable pub padded : List Complex → List Complex
 padded zs = zs ++ replicate (8 - length zs) (from_real f0)
 
--- what the functions below the locus point return: these roots, in such an array, and the ending e unless a part is NaN
+-- these roots, in such an array, and the ending e unless a part is NaN
 unfoldable pub as_roots : List Complex → Ending → Roots
-as_roots zs e = record { z = padded zs; count = length zs; cubic = false; ending = unless_nan zs e }
+as_roots zs e = record { z = padded zs; count = length zs; ending = unless_nan zs e }
 
--- no roots, with the mark of a cubic or without it
-unfoldable pub no_roots : Bool → Roots
-no_roots cubic = record { z = padded []; count = 0; cubic = cubic; ending = Settled 0 }
-
--- what the search makes of an array that holds the starting points
-unfoldable pub searched_array : List Float → List Complex → Roots
-searched_array norm z =
-    let s = run norm 200 (begun z) in
-    record { z = s.roots; count = length norm; cubic = false; ending = unless_nan (take (length norm) s.roots) (end_of s.used s.last) }
-
--- the roots of a polynomial whose first coefficient counts, whether it is a cubic, and how the search ended
-unfoldable pub degree_cases : List Float → Roots
-degree_cases p = record { z = padded (by_degree p); count = length (by_degree p); cubic = (degree_of p == 3); ending = ending_by_degree p }
+-- the roots of a polynomial whose first coefficient counts, and how the search for them ended; a cubic is refused
+unfoldable pub degree_cases : List Float → Result Roots FreqError
+degree_cases p =
+    cond (degree_of p == 3) (Err CubicLeftOut) (Ok (record { z = padded (by_degree p); count = length (by_degree p); ending = ending_by_degree p }))

@@ -1,6 +1,6 @@
 // How the search for roots ended.
-ghost use Rattle.std.specs.Prelude.{◌≡◌, ◌≤◌, take};
-ghost use Rattle.root_locus.specs.Ending.{some_nan, unless_nan, end_of, ending_number, ending_value};
+ghost use Rattle.std.specs.Prelude.{◌≡◌};
+ghost use Rattle.root_locus.specs.Ending.{unless_nan, end_of, ending_number, ending_value};
 
 use complex::Complex;
 
@@ -15,6 +15,7 @@ pub enum Ending {
 }
 
 impl Ending {
+    // A host gets an ending as this number and the value below; `u32::from` would not say which of its numbers it is.
     pub fn number(self) -> u32
         ensures { result ≡ ending_number self }
     {
@@ -35,44 +36,28 @@ impl Ending {
             Ending::Broken => 0.0,
         }
     }
-}
 
-// Whether some part of the first `count` roots is NaN.
-fn some_nan(z: [Complex; 8], count: usize) -> bool
-    requires { count ≤ 8 }
-    ensures { result ≡ some_nan (take count z) }
-{
-    for i in 0..count {
-        let root = z[i];
-        if root.re != root.re {
-            return true;
-        }
-        if root.im != root.im {
-            return true;
+    // The end of so many rounds, by the last one's largest change.
+    #[tactic(auto, unfolding(crate::specs::Ending::end_of))]
+    pub(super) fn of_rounds(used: usize, last_change: f64) -> Ending
+        ensures { result ≡ end_of used last_change }
+    {
+        if last_change < 1e-12 {
+            Ending::Settled(used)
+        } else {
+            Ending::Spent(last_change)
         }
     }
-    false
-}
 
-// Broken where some part of the first `count` roots is NaN, and else as given.
-pub(super) fn unless_nan(z: [Complex; 8], count: usize, otherwise: Ending) -> Ending
-    requires { count ≤ 8 }
-    ensures { result ≡ unless_nan (take count z) otherwise }
-{
-    if some_nan(z, count) {
-        Ending::Broken
-    } else {
-        otherwise
-    }
-}
-
-// The end of so many rounds, by the last one's largest change.
-pub(super) fn end_of(used: usize, last_change: f64) -> Ending
-    ensures { result ≡ end_of used last_change }
-{
-    if last_change < 1e-12 {
-        Ending::Settled(used)
-    } else {
-        Ending::Spent(last_change)
+    // Broken where some part of a root is NaN, and else as it is.
+    #[tactic(auto, unfolding(crate::specs::Ending::some_nan, crate::specs::Ending::unless_nan))]
+    pub(super) fn unless_nan(self, roots: &[Complex]) -> Ending
+        ensures { result ≡ unless_nan roots.now self }
+    {
+        if roots.iter().any(|z| z.re.is_nan() || z.im.is_nan()) {
+            Ending::Broken
+        } else {
+            self
+        }
     }
 }

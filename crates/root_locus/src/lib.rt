@@ -4,26 +4,27 @@
 
 mod ending;
 
-ghost use Rattle.std.specs.Prelude.{◌≡◌, ◌+◌, ◌<◌, ◌≤◌, [], ◌∷◌, length};
+ghost use Rattle.std.specs.Prelude.{◌≡◌, ◌+◌, ◌<◌, ◌≤◌, ◌∷◌, length};
 ghost use Rattle.laws.specs.Loops.{filled};
-ghost use Rattle.sweep.specs.Refusal.{refusal_of, number_of};
+ghost use Rattle.sweep.specs.Refusal.{refusal_of};
 ghost use Rattle.sweep.specs.Answer.{outcome_of_grid};
 ghost use Rattle.root_locus.specs.Gain.{gain_at, gain_outcome, gain_grid};
 ghost use Rattle.root_locus.specs.Polynomial.{coefficient, nine_zeros, loop_polynomial, counting};
 ghost use Rattle.root_locus.specs.StartingPoints.{first_point, starting_points};
-ghost use Rattle.root_locus.specs.Search.{eval_poly};
-ghost use Rattle.root_locus.specs.Roots.{linear, quadratic, searched, search_end, padded, as_roots, no_roots, searched_array, degree_cases};
+ghost use Rattle.root_locus.specs.Search.{eval_poly, begun, run};
+ghost use Rattle.root_locus.specs.Ending.{end_of};
+ghost use Rattle.root_locus.specs.Roots.{linear, quadratic, searched, search_end, padded, as_roots, degree_cases};
 ghost use Rattle.root_locus.specs.Stability.{stable};
-ghost use Rattle.root_locus.specs.Locus.{locus_refusal, point_of, no_point, left_point, locus_point_at};
+ghost use Rattle.root_locus.specs.Locus.{locus_refusal, point_of, locus_point_at};
 
 use complex::Complex;
 pub use ending::Ending;
-use sweep::{Check, FreqError, Grid};
+use sweep::FreqError;
 use transfer_fn::TransferFn;
 
 // Where the root search starts: cosine and sine of 2π * i / degree for each i below the degree, as the Rust computes
 // them.
-const START: [[f64; 2]; 30] = [
+static START: [[f64; 2]; 30] = [
     // degree 4
     [1.0, 0.0],
     [6.123233995736766e-17, 1.0],
@@ -61,17 +62,34 @@ const START: [[f64; 2]; 30] = [
     [0.7071067811865474, -0.7071067811865477],
 ];
 
-// Roots with their count, and how the search for them ended; the places past the count hold (0, 0). A cubic is left
-// out. They are what the formulas and the search give: nothing says that the polynomial is 0 there.
+// Roots with their count, and how the search for them ended; the places past the count hold (0, 0). They are what the
+// formulas and the search give: nothing says that the polynomial is 0 there.
 #[derive(Clone, Copy)]
 struct Roots {
     z: [Complex; 8],
     count: usize,
-    cubic: bool,
     ending: Ending,
 }
 
+impl Roots {
+    // These roots, found as `ending` says unless some part of one is NaN.
+    #[tactic(auto, unfolding(crate::specs::Roots::as_roots), using(crate::proofs::Padding::eight_padded))]
+    fn new(roots: &[Complex], ending: Ending) -> Roots
+        requires { length roots.now ≤ 8 }
+        ensures { result ≡ as_roots roots.now ending }
+    {
+        let mut z = [Complex::from_real(0.0); 8];
+        z[..roots.len()].copy_from_slice(roots);
+        Roots {
+            z,
+            count: roots.len(),
+            ending: ending.unless_nan(roots),
+        }
+    }
+}
+
 // Where a degree's pairs begin in the table.
+#[tactic(auto, unfolding(crate::specs::StartingPoints::first_point))]
 fn first_point(degree: usize) -> usize
     requires { degree ≤ 8 }
     ensures { (result ≡ first_point degree) × (result + degree ≤ 30) }
@@ -86,42 +104,44 @@ fn first_point(degree: usize) -> usize
 }
 
 // The starting points of a degree.
+#[tactic(auto, unfolding(crate::specs::StartingPoints::starting_points, crate::specs::StartingPoints::starting_point, crate::specs::StartingPoints::start_table, crate::specs::StartingPoints::pair, crate::specs::StartingPoints::as_complex), using(laws::proofs::Loops::filled_none, laws::proofs::Loops::filled_more, laws::proofs::Loops::arrived, crate::proofs::Padding::filled_padded))]
 fn starting_points(degree: usize) -> [Complex; 8]
     requires { degree ≤ 8 }
     ensures { result ≡ padded (starting_points degree) }
 {
-    let table = START;
     let first = first_point(degree);
     let mut z = [Complex::from_real(0.0); 8];
     for i in 0..degree {
-        let pair = table[first + i];
-        z[i] = Complex::new(pair[0], pair[1]);
+        let [cosine, sine] = START[first + i];
+        z[i] = Complex::new(cosine, sine);
     }
     z
 }
 
 // z^n + norm[0] z^(n - 1) + .. + norm[n - 1] by Horner's rule.
+#[tactic(auto, unfolding(crate::specs::Search::eval_poly), using(crate::proofs::Rounds::horner_next))]
 fn eval_poly_complex(norm: &[f64], z: Complex) -> Complex
     ensures { result ≡ eval_poly norm.now z }
 {
-    let n = norm.len();
     let mut acc = Complex::from_real(1.0);
-    for k in 0..n {
+    for c in norm {
         acc = acc.multiply(z);
-        acc.re += norm[k];
+        acc.re += *c;
     }
     acc
 }
 
 // The method of Durand and Kerner: in up to 200 rounds each root moves by the polynomial's value there over the
 // product of its differences to the others, and the next one sees it moved. Where that product is too small the
-// root stays.
-fn durand_kerner(norm: &[f64], start: [Complex; 8]) -> Roots
-    requires { length norm.now ≤ 8 }
-    ensures { result ≡ searched_array norm.now start }
+// root stays. (The loops are nested and have labels by a rule of the project: a root that stays goes on by its label, and
+// a round that settles leaves the outer one.)
+#[tactic(auto, unfolding(crate::specs::Search::one_round, crate::specs::Search::differences), using(laws::proofs::Loops::up_begin, laws::proofs::Loops::up_next, laws::proofs::Loops::up_end, crate::proofs::Rounds::root_skipped, crate::proofs::Rounds::round_more))]
+fn durand_kerner(norm: &[f64], z: &mut [Complex]) -> Ending
+    requires { length z.old ≡ length norm.now }
+    ensures roots { z.new ≡ (run norm.now 200 (begun z.old)).roots }
+    ensures ending { result ≡ end_of (run norm.now 200 (begun z.old)).used (run norm.now 200 (begun z.old)).last }
 {
     let degree = norm.len();
-    let mut z = start;
     let mut used: usize = 0;
     let mut last_change = 0.0;
     'rounds: for round in 0usize..200 {
@@ -151,201 +171,179 @@ fn durand_kerner(norm: &[f64], start: [Complex; 8]) -> Roots
             break 'rounds;
         }
     }
-    let end = ending::end_of(used, last_change);
-    let ending = ending::unless_nan(z, degree, end);
-    Roots {
-        z,
-        count: degree,
-        cubic: false,
-        ending,
-    }
+    Ending::of_rounds(used, last_change)
 }
 
 // The roots of degrees 4 to 8: the search on the coefficients over the leading one.
-fn companion_matrix_roots(coeffs: &[f64]) -> Roots
-    requires { (1 ≤ length coeffs.now) × (length coeffs.now ≤ 9) }
-    ensures { result ≡ as_roots (searched coeffs.now) (search_end coeffs.now) }
+#[tactic(auto, unfolding(crate::specs::Roots::quotient_at), using(laws::proofs::Loops::filled_none, laws::proofs::Loops::filled_more))]
+fn companion_matrix_roots(lead: f64, rest: &[f64]) -> Roots
+    requires { length rest.now ≤ 8 }
+    ensures { result ≡ as_roots (searched (lead ∷ rest.now)) (search_end (lead ∷ rest.now)) }
 {
-    let degree = coeffs.len() - 1;
-    let lead = coeffs[0];
+    let degree = rest.len();
     let mut norm = [0.0f64; 8];
-    for i in 0..degree {
-        norm[i] = coeffs[i + 1] / lead;
+    for (i, c) in rest.iter().enumerate() {
+        norm[i] = *c / lead;
     }
-    durand_kerner(&norm[..degree], starting_points(degree))
+    let mut z = starting_points(degree);
+    let ending = durand_kerner(&norm[..degree], &mut z[..degree]);
+    Roots::new(&z[..degree], ending)
 }
 
 // c0 z + c1 = 0
+#[tactic(auto, unfolding(crate::specs::Roots::linear))]
 fn linear_root(c0: f64, c1: f64) -> Roots
     ensures { result ≡ as_roots (linear c0 c1) (Ending.Settled 0) }
 {
-    let mut z = [Complex::from_real(0.0); 8];
-    z[0] = Complex::from_real(-(c1 / c0));
-    let ending = ending::unless_nan(z, 1, Ending::Settled(0));
-    Roots {
-        z,
-        count: 1,
-        cubic: false,
-        ending,
-    }
-}
-
-// Two roots that a formula gave.
-fn two_roots(first: Complex, second: Complex) -> Roots
-    ensures { result ≡ as_roots (first ∷ second ∷ []) (Ending.Settled 0) }
-{
-    let mut z = [Complex::from_real(0.0); 8];
-    z[0] = first;
-    z[1] = second;
-    let ending = ending::unless_nan(z, 2, Ending::Settled(0));
-    Roots {
-        z,
-        count: 2,
-        cubic: false,
-        ending,
-    }
+    Roots::new(&[Complex::from_real(-(c1 / c0))], Ending::Settled(0))
 }
 
 // c0 z^2 + c1 z + c2 = 0
+#[tactic(auto, unfolding(crate::specs::Roots::quadratic, crate::specs::Roots::discriminant, crate::specs::Roots::real_pair, crate::specs::Roots::complex_pair))]
 fn quadratic_roots(c0: f64, c1: f64, c2: f64) -> Roots
     ensures { result ≡ as_roots (quadratic c0 c1 c2) (Ending.Settled 0) }
 {
     let disc = c1 * c1 - 4.0 * c0 * c2;
     let two_c0 = 2.0 * c0;
-    if disc >= 0.0 {
+    let pair = if disc >= 0.0 {
         let sq = scalar::sqrt(disc);
-        two_roots(
+        [
             Complex::from_real((-c1 + sq) / two_c0),
             Complex::from_real((-c1 - sq) / two_c0),
-        )
+        ]
     } else {
         let sq = scalar::sqrt(-disc);
-        two_roots(
+        [
             Complex::new(-c1 / two_c0, sq / two_c0),
             Complex::new(-c1 / two_c0, -(sq / two_c0)),
-        )
+        ]
+    };
+    Roots::new(&pair, Ending::Settled(0))
+}
+
+// A polynomial of a degree up to 8: its coefficients from the highest power down.
+#[derive(Clone, Copy)]
+struct Polynomial<'a> {
+    coeffs: &'a [f64],
+    ghost few: { length coeffs.now ≤ 9 },
+}
+
+impl Polynomial<'_> {
+    // Its roots by the degree, where the first coefficient counts. Those of a cubic are left out.
+    #[tactic(auto, using(crate::proofs::ByDegree::case_none, crate::proofs::ByDegree::case_linear, crate::proofs::ByDegree::case_quadratic, crate::proofs::ByDegree::case_cubic, crate::proofs::ByDegree::case_searched, crate::proofs::ByDegree::taken_apart))]
+    fn degree_cases(self) -> Result<Roots, FreqError>
+        ensures { result ≡ degree_cases self.entry.coeffs.now }
+    {
+        match self.coeffs {
+            [] | [_] => Ok(Roots::new(&[], Ending::Settled(0))),
+            [c0, c1] => Ok(linear_root(*c0, *c1)),
+            [c0, c1, c2] => Ok(quadratic_roots(*c0, *c1, *c2)),
+            [_, _, _, _] => Err(FreqError::CubicLeftOut),
+            [lead, rest @ ..] => Ok(companion_matrix_roots(*lead, rest)),
+        }
+    }
+
+    // Its roots. Leading coefficients that are too small to count are dropped.
+    fn find_roots(self) -> Result<Roots, FreqError>
+        ensures { result ≡ degree_cases (counting self.entry.coeffs.now) }
+    {
+        let coeffs = self.coeffs;
+        let start = coeffs
+            .iter()
+            .position(|c| !(scalar::abs(*c) < scalar::EPSILON))
+            .unwrap_or(coeffs.len());
+        Polynomial {
+            coeffs: &coeffs[start..],
+        }
+        .degree_cases()
     }
 }
 
-// No roots: of a constant, or of a cubic, which is left out.
-fn no_roots(cubic: bool) -> Roots
-    ensures { result ≡ no_roots cubic }
-{
-    let z = [Complex::from_real(0.0); 8];
-    Roots {
-        z,
-        count: 0,
-        cubic,
-        ending: Ending::Settled(0),
+// A transfer function of an order from 1 to 8, around which a loop is closed.
+#[derive(Clone, Copy)]
+struct OpenLoop {
+    tf: TransferFn,
+    ghost least: { 1 ≤ tf.order },
+    ghost most: { tf.order ≤ 8 },
+}
+
+impl OpenLoop {
+    // The loop polynomial at gain k, and zeros past its order.
+    #[tactic(auto, using(laws::proofs::Loops::filled_none, laws::proofs::Loops::filled_more, laws::proofs::Loops::arrived, crate::proofs::Coefficients::coefficient_first, crate::proofs::Coefficients::coefficient_middle, crate::proofs::Coefficients::coefficient_last))]
+    fn loop_polynomial(&self, k: f64) -> [f64; 9]
+        ensures { result ≡ filled (coefficient self.now.tf k) nine_zeros (self.now.tf.order + 1) }
+    {
+        let tf = self.tf;
+        let order = tf.order;
+        let mut poly = [0.0f64; 9];
+        poly[0] = 1.0 + k * tf.b[0];
+        for i in 1..order {
+            poly[i] = tf.a[i - 1] + k * tf.b[i];
+        }
+        poly[order] = tf.a[order - 1];
+        poly
+    }
+
+    // The poles of the closed loop at gain k.
+    #[tactic(auto, using(crate::proofs::Coefficients::polynomial_lent))]
+    fn closed_loop_poles(&self, k: f64) -> Result<Roots, FreqError>
+        ensures { result ≡ degree_cases (counting (loop_polynomial self.now.tf k)) }
+    {
+        let poly = self.loop_polynomial(k);
+        Polynomial {
+            coeffs: &poly[..self.tf.order + 1],
+        }
+        .find_roots()
     }
 }
 
-// The roots by the degree, where the first coefficient counts.
-fn degree_cases(coeffs: &[f64]) -> Roots
-    requires { length coeffs.now ≤ 9 }
-    ensures { result ≡ degree_cases coeffs.now }
-{
-    let n = coeffs.len();
-    match n {
-        0 | 1 => no_roots(false),
-        2 => linear_root(coeffs[0], coeffs[1]),
-        3 => quadratic_roots(coeffs[0], coeffs[1], coeffs[2]),
-        4 => no_roots(true),
-        _ => companion_matrix_roots(coeffs),
-    }
-}
-
-// The roots of a polynomial, its coefficients from the highest power down. Leading ones that are too small to count
-// are dropped.
-fn find_polynomial_roots(coeffs: &[f64]) -> Roots
-    requires { length coeffs.now ≤ 9 }
-    ensures { result ≡ degree_cases (counting coeffs.now) }
-{
-    let mut start: usize = 0;
-    while start < coeffs.len() && scalar::abs(coeffs[start]) < scalar::EPSILON {
-        start += 1;
-    }
-    degree_cases(&coeffs[start..])
-}
-
-// The loop polynomial at gain k, and zeros past its order.
-fn loop_polynomial(tf: TransferFn, k: f64) -> [f64; 9]
-    requires { (1 ≤ tf.order) × (tf.order ≤ 8) }
-    ensures { result ≡ filled (coefficient tf k) nine_zeros (tf.order + 1) }
-{
-    let order = tf.order;
-    let mut poly = [0.0f64; 9];
-    poly[0] = 1.0 + k * tf.b[0];
-    for i in 1..order {
-        let j = i - 1;
-        poly[i] = tf.a[j] + k * tf.b[i];
-    }
-    let last = order - 1;
-    poly[order] = tf.a[last];
-    poly
-}
-
-// The poles of the closed loop at gain k.
-fn compute_closed_loop_poles(tf: TransferFn, k: f64) -> Roots
-    requires { (1 ≤ tf.order) × (tf.order ≤ 8) }
-    ensures { result ≡ degree_cases (counting (loop_polynomial tf k)) }
-{
-    let poly = loop_polynomial(tf, k);
-    let n = tf.order + 1;
-    find_polynomial_roots(&poly[..n])
-}
-
-// Whether no counted pole lies on or outside the unit circle.
+// Whether no counted pole lies on or outside the unit circle. (Poles come as an array with a count, since the C interface
+// hands them on so; likewise in a locus point.)
 pub fn stability_region(poles: [Complex; 8], count: usize) -> bool
     ensures { result ≡ stable poles count }
 {
-    let n = if count < 8 { count } else { 8 };
-    for i in 0..n {
-        let z = poles[i];
-        if z.magnitude_sq() >= 1.0 {
-            return false;
-        }
-    }
-    true
+    !poles.iter().take(count).any(|z| z.magnitude_sq() >= 1.0)
 }
 
 // A point of the root locus: the gain and so many poles, with (0, 0) in the places past them, and how the search for
-// them ended. Where the call is turned away the gain is 0, there are no poles, and no round was used.
+// them ended.
 #[derive(Clone, Copy)]
 pub struct LocusPoint {
-    pub check: Check,
     pub gain: f64,
     pub poles: [Complex; 8],
     pub count: usize,
     pub ending: Ending,
 }
 
-// The conditions of a locus point but for the last one, on the degree that is left, which a degree of 0 passes.
-fn check_locus(order: usize, k_max: f64, n: usize, i: usize) -> Check
+// The conditions of a locus point but for the last one, on the degree that is left, which a degree of 0 passes. (The
+// first two are a grid's; its next one comes here after those on the order, so that its check is no part of this one.)
+#[tactic(auto, unfolding(crate::specs::Locus::locus_refusal))]
+fn check_locus(order: usize, k_max: f64, n: usize, i: usize) -> Result<(), FreqError>
     ensures { refusal_of result ≡ locus_refusal order k_max n i 0 }
 {
     if n < 2 {
-        return Check::Refused(FreqError::InsufficientPoints);
+        return Err(FreqError::InsufficientPoints);
     }
     if k_max <= 0.0 {
-        return Check::Refused(FreqError::InvalidParameter);
+        return Err(FreqError::InvalidParameter);
     }
     if 8 < order {
-        return Check::Refused(FreqError::InvalidParameter);
+        return Err(FreqError::InvalidParameter);
     }
     if order == 0 {
-        return Check::Refused(FreqError::WrongOrder);
+        return Err(FreqError::WrongOrder);
     }
     if 4096 < n {
-        return Check::Refused(FreqError::TooMany);
+        return Err(FreqError::TooMany);
     }
     if n <= i {
-        return Check::Refused(FreqError::WrongIndex);
+        return Err(FreqError::WrongIndex);
     }
-    Check::Passed
+    Ok(())
 }
 
 // Gain i of n: evenly spaced from 0 to k_max.
+#[tactic(auto, unfolding(crate::specs::Gain::gain_at))]
 fn gain_at(k_max: f64, n: usize, i: usize) -> f64
     requires { (2 ≤ n) × (n ≤ 4096) × (i < n) }
     ensures { result ≡ gain_at k_max n i }
@@ -355,62 +353,36 @@ fn gain_at(k_max: f64, n: usize, i: usize) -> f64
     k_max * at / last
 }
 
-// The refusal alone.
-fn turned_away(e: FreqError) -> LocusPoint
-    ensures { point_of result ≡ no_point (number_of e) }
+// Point i of n of the root locus, with gains from 0 to k_max.
+#[tactic(auto, using(crate::proofs::Conditions::passing, crate::proofs::Conditions::point_turned_away, crate::proofs::Conditions::point_cubic, crate::proofs::Conditions::point_let_through))]
+pub fn locus_point(
+    open_loop_tf: TransferFn,
+    k_max: f64,
+    n: usize,
+    i: usize,
+) -> Result<LocusPoint, FreqError>
+    ensures { point_of result ≡ locus_point_at open_loop_tf k_max n i }
 {
-    let poles = [Complex::from_real(0.0); 8];
-    LocusPoint {
-        check: Check::Refused(e),
-        gain: 0.0,
-        poles,
-        count: 0,
-        ending: Ending::Settled(0),
-    }
-}
-
-// The point at a gain, whose polynomial may be a cubic.
-fn left_point(tf: TransferFn, gain: f64) -> LocusPoint
-    requires { (1 ≤ tf.order) × (tf.order ≤ 8) }
-    ensures { point_of result ≡ left_point gain (counting (loop_polynomial tf gain)) }
-{
-    let roots = compute_closed_loop_poles(tf, gain);
-    if roots.cubic {
-        return turned_away(FreqError::CubicLeftOut);
-    }
+    check_locus(open_loop_tf.order, k_max, n, i)?;
+    let open_loop = OpenLoop { tf: open_loop_tf };
+    let gain = gain_at(k_max, n, i);
+    let roots = open_loop.closed_loop_poles(gain)?;
     let poles = roots.z;
-    let ending = roots.ending;
-    LocusPoint {
-        check: Check::Passed,
+    Ok(LocusPoint {
         gain,
         poles,
         count: roots.count,
-        ending,
-    }
-}
-
-// Point i of n of the root locus, with gains from 0 to k_max.
-pub fn locus_point(open_loop_tf: TransferFn, k_max: f64, n: usize, i: usize) -> LocusPoint
-    ensures { point_of result ≡ locus_point_at open_loop_tf k_max n i }
-{
-    match check_locus(open_loop_tf.order, k_max, n, i) {
-        Check::Refused(e) => turned_away(e),
-        Check::Passed => left_point(open_loop_tf, gain_at(k_max, n, i)),
-    }
+        ending: roots.ending,
+    })
 }
 
 // Writes the n gains into the first n places of the list.
-pub fn fill_gain_grid(k_max: f64, n: usize, list: &mut [f64]) -> Grid
+pub fn fill_gain_grid(k_max: f64, n: usize, list: &mut [f64]) -> Result<(), FreqError>
     ensures { (outcome_of_grid result ≡ gain_outcome k_max n list.old) × (list.new ≡ gain_grid k_max n list.old) }
 {
-    let room = list.len();
-    match sweep::check_grid(FreqError::InvalidParameter, n, k_max, room) {
-        Check::Refused(e) => Grid::Refused(e),
-        Check::Passed => {
-            for i in 0..n {
-                list[i] = gain_at(k_max, n, i);
-            }
-            Grid::Filled
-        }
+    sweep::check_grid(FreqError::InvalidParameter, n, k_max, list.len())?;
+    for i in 0..n {
+        list[i] = gain_at(k_max, n, i);
     }
+    Ok(())
 }

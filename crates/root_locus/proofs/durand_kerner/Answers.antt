@@ -1,18 +1,9 @@
-use Rattle.std.proofs.Common.{◌≡◌, refl, ◌∙◌}
+use Rattle.std.proofs.Common.{◌≡◌, refl, ap, ◌∙◌}
 use Rattle.laws.proofs.Loops.{up_begin, up_next, up_end}
 use Rattle.root_locus.specs.Search.{differences, one_round, Run, begun, run}
-use Rattle.root_locus.specs.Roots.{searched_array}
 use Rattle.root_locus.proofs.Rounds.{factor_taken, factor_left, raised, kept, root_skipped, root_moved, round_more, round_last, rounds_done}
 use Rattle.root_locus.proofs.durand_kerner.Goals as goal
 use Rattle.root_locus.proofs.durand_kerner.Goals.{then-j-i, else-j-i, then-change-max_change, else-change-max_change, else-rounds-test, then-rounds-test+else-roots-test+then-max_change}
-
-pub roots-init : goal.roots-init
-unfolding one_round
-roots-init c = up_begin _ _ refl
-
-pub loop-j-init : goal.loop-j-init
-unfolding differences
-loop-j-init c = up_begin _ _ c.from_real-denom.ensures
 
 pub loop-j-preserved : goal.loop-j-preserved
 loop-j-preserved c =
@@ -21,11 +12,6 @@ loop-j-preserved c =
       | then-j-i w ↦ factor_taken _ _ _ _ w.if-j-i.true w.sub.ensures (w.denom-is ∙ w.multiply-denom.ensures)
       | else-j-i w ↦ factor_left _ _ _ _ w.if-j-i.false w.denom-is
     ])
-
-pub roots-preserved-then-magnitude_sq : goal.roots-preserved-then-magnitude_sq
-roots-preserved-then-magnitude_sq c = up_next _ _ c.roots.invariant c.roots-test.true
-    (root_skipped _ _ _ _ c.eval_poly_complex-p_val.ensures (up_end _ _ c.loop-j.invariant c.loop-j-test.false)
-    c.magnitude_sq.ensures c.if-magnitude_sq.true)
 
 pub roots-preserved : goal.roots-preserved
 roots-preserved c =
@@ -38,22 +24,16 @@ roots-preserved c =
     ])
     c.sub-in-roots.ensures)
 
-pub rounds-preserved : goal.rounds-preserved
-rounds-preserved c =
-    let e = up_end _ _ c.roots.invariant c.roots-test.false in
-    (refl, round_more _ 200 _ _ c.rounds.invariant.1 c.rounds-test.true e c.if-max_change.false)
-
 pub returns : goal.returns
-unfolding searched_array
 returns c =
     let left = c.rounds-test in
     let inv = c.rounds.invariant in
     let args = c.args in
-    let ran : ◌≡◌ {A = Run} (record { roots = left.z; used = left.used; last = left.last_change }) (run args.norm.now 200 (begun args.start)) =
+    let ran : ◌≡◌ {A = Run} (record { roots = left.z; used = left.used; last = left.last_change }) (run args.norm.now 200 (begun args.z.now)) =
     elim left.branch [
       | else-rounds-test w ↦ rw (w.z-is, w.used-is, w.last_change-is, inv.0) (rounds_done _ 200 _ inv.1 w.rounds-test.false)
       | then-rounds-test+else-roots-test+then-max_change w ↦
           let e = up_end _ _ w.roots.invariant w.roots-test.false in
           rw (w.z-is, w.used-is, w.last_change-is) (round_last _ 200 _ _ inv.1 w.rounds-test.true e w.if-max_change.true)
     ] in
-    rw (c.unless_nan-ending.ensures, c.end_of-end.ensures, ← ran)
+    record { roots = ap (λ (r : Run). r.roots) ran; ending = rw (c.of_rounds.ensures, ← ran) }

@@ -1,22 +1,15 @@
-use Rattle.std.proofs.Common.{◌≡◌, ℕ, min, length, take, ap, arith, rules}
-use Rattle.root_locus.specs.Stability.{none_outside, stable}
-use Rattle.root_locus.proofs.Poles.{pole_inside, pole_outside, poles_done}
+use Rattle.std.proofs.Common.{◌≡◌, min, length, take, rules}
+use Rattle.std.proofs.lemmas.List.{take_min}
+use Rattle.std.proofs.lemmas.Iterator.{YieldsList-from_slice, YieldsList-from_take}
+use Rattle.std.proofs.lemmas.Iterator.Search.{any_from_yields_List}
+use borrow.Author.Tests.{tests}
+use Rattle.root_locus.specs.Stability.{outside, none_outside, stable}
 use Rattle.root_locus.proofs.stability_region.Goals as goal
-use Rattle.root_locus.proofs.stability_region.Goals.{then-count-lt8, else-count-lt8}
-
-pub loop-i-init : goal.loop-i-init
-unfolding stable
-loop-i-init c =
-    let long : length c.args.poles ≡ 8 = search rules in
-    let n = c.if-count-lt8.n in
-    let e : n ≡ min c.args.count 8 = elim c.if-count-lt8.branch [ then-count-lt8 w ↦ omega arith | else-count-lt8 w ↦ omega arith ] in
-    (omega arith, ap (λ (k : ℕ). none_outside (take k c.args.poles)) e)
-
-pub returns-then-magnitude_sq : goal.returns-then-magnitude_sq
-returns-then-magnitude_sq c = pole_outside _ _ _ c.loop-i.invariant.0 c.loop-i.invariant.1 c.loop-i-test.true c.magnitude_sq.ensures c.if-magnitude_sq.true
-
-pub loop-i-preserved : goal.loop-i-preserved
-loop-i-preserved c = (c.loop-i.invariant.0, pole_inside _ _ _ c.loop-i.invariant.0 c.loop-i.invariant.1 c.loop-i-test.true c.magnitude_sq.ensures c.if-magnitude_sq.false)
 
 pub returns : goal.returns
-returns c = poles_done _ _ _ c.loop-i.invariant.0 c.loop-i.invariant.1 c.loop-i-test.false
+unfolding stable none_outside outside
+returns c =
+    let any = any_from_yields_List outside _ _ _ c.any.ensures.ran (YieldsList-from_take c.args.count (YieldsList-from_slice c.args.poles (cc)) (cc)) (λ x b q k. search (rules, tests)) in
+    let eight : length c.args.poles ≡ 8 = search rules in
+    let e : take (min c.args.count 8) c.args.poles ≡ take c.args.count c.args.poles = rw eight at (take_min c.args.count c.args.poles) in
+    rw (any, e)

@@ -1,8 +1,0 @@
-use Rattle.std.proofs.Common.{◌∙◌}
-use Rattle.laws.proofs.Loops.{take-filled}
-use Rattle.root_locus.specs.Polynomial.{loop_polynomial}
-use Rattle.root_locus.proofs.compute_closed_loop_poles.Goals as goal
-
-pub returns : goal.returns
-unfolding loop_polynomial
-returns c = c.find_polynomial_roots.ensures ∙ rw (c.loop_polynomial-poly.ensures, take-filled)
