@@ -1,0 +1,80 @@
+-- From the upper 31 digits of a root to its 53, by one division. Assumes nothing.
+use mathlib.Core.Path.{◌≡◌, ap, ◌∙◌, subst}
+use mathlib.Core.Logic.{inl, inr}
+use Prim.Native.Nat.{ℕ, ◌+◌, ◌-◌, ◌*◌, ◌/◌, ◌%◌, ◌^◌, ◌≤◌, ◌<◌}
+use native.Mathlib.Nat.{add_comm, mul_comm, mul-add, add-mul, mul-le-mul, mul-le-mul_right, mul-mul-mul_comm, mul_right_comm, le_of_mul-le-mul_right, lt_of_mul-lt-mul_right, lt_of_not-le, eq-zero-or-pos, div-mul-le_self, div-lt_iff_lt-mul, div-add-mod', mod-lt}
+use native.Mathlib.Omega.{arith}
+use Rattle.scalar.proofs.Squares.{square_even, square_next, square_sum}
+use Rattle.scalar.proofs.WholeRoot.{square_lt, Digits, digits_down, digits_up}
+
+pred_square : (r : ℕ) → 0 < r → r * r ≡ (r - 1) * (r - 1) + 2 * (r - 1) + 1
+pred_square r h = ap (λ (x : ℕ). x * x) (back r h) ∙ square_next (r - 1)
+  where
+    back : (r : ℕ) → 0 < r → r ≡ r - 1 + 1
+    back r h = omega arith
+
+-- ---- the nearest whole number to the root of m * 2 ^ 52
+nearest_is : (m r : ℕ) → 2 ^ 52 ≤ m → m ≤ 2 ^ 54 - 2 → m * 2 ^ 52 ≤ r * r + r → r * r < m * 2 ^ 52 + r → Digits m r
+nearest_is m r lo hi a b = elim (eq-zero-or-pos (r * r - m * 2 ^ 52)) [
+  | inl z ↦ digits_down m r (m * 2 ^ 52 - r * r) lo hi (omega arith) (omega arith) (omega arith)
+  | inr z ↦
+      let p : r - 1 + 1 ≡ r = omega arith in
+      let e = pred_square r (omega arith) in
+      subst (Digits m) p (digits_up m (r - 1) (m * 2 ^ 52 - (r - 1) * (r - 1)) lo hi (omega arith) (omega arith) (omega arith))
+]
+
+-- ---- from 31 digits to 53, by one division: (s * 2 ^ 22 - k) ^ 2 against m * 2 ^ 52
+module _ (m s excess : ℕ) (digits : (2 ^ 52 ≤ m) × (m ≤ 2 ^ 54 - 2)) (close : (0 < excess) × (excess ≤ 27 * s)) (above : m * 256 + excess ≡ s * s) where
+  abbrev over : ℕ
+  over = excess * 2 ^ 21
+
+  abbrev k : ℕ
+  k = over / s
+
+  abbrev root : ℕ
+  root = s * 2 ^ 22 - k
+
+  s_low : 2 ^ 30 < s
+  s_low = square_lt (2 ^ 30) s (omega arith)
+
+  s_high : s < 2 ^ 32
+  s_high = lt_of_not-le (λ (g : 2 ^ 32 ≤ s). large g (mul-le-mul_right s g))
+    where
+      large : 2 ^ 32 ≤ s → 2 ^ 32 * s ≤ s * s → ⊥
+      large g w = omega arith
+
+  s_pos : 0 < s
+  s_pos = omega (arith, s_low)
+
+  pub record Last : Type 0 where
+    pub low : 2 ^ 30 < s
+    pub high : s < 2 ^ 32
+    pub rest : over % s < s
+    pub small : k ≤ 27 * 2 ^ 21
+    pub square : k * k ≤ 729 * 2 ^ 42
+    pub exact : root * root ≡ m * 2 ^ 52 + (over % s * 2 ^ 23 + k * k)
+
+  pub last : Last
+  last =
+      let k_small : k ≤ 27 * 2 ^ 21 = omega (arith, (div-lt_iff_lt-mul {k = s} {x = over} {y = 27 * 2 ^ 21 + 1} s_pos).1 (omega (arith, s_pos))) in
+      let parts : root + k ≡ s * 2 ^ 22 = omega (arith, s_low) in
+      let whole : over / s * s + over % s ≡ over = div-add-mod' over s in
+      let sq : (root + k) * (root + k) ≡ s * s * 2 ^ 44 = ap (λ (x : ℕ). x * x) parts ∙ mul-mul-mul_comm s (2 ^ 22) s (2 ^ 22) in
+      let cross : (root + k) * k ≡ s * k * 2 ^ 22 = ap (λ (x : ℕ). x * k) parts ∙ mul_right_comm s (2 ^ 22) k in
+      record {
+        low = s_low;
+        high = s_high;
+        rest = mod-lt over s_pos;
+        small = k_small;
+        square = mul-le-mul k_small k_small;
+        exact = omega (arith, square_sum root k, add-mul root k k, mul_comm s k);
+      }
+
+  abbrev d : ℕ
+  d = over % s * 2 ^ 23 + k * k
+
+  pub at_root : d < root → Digits m root
+  at_root h = nearest_is m root digits.0 digits.1 (omega (arith, last)) (omega (arith, last))
+
+  pub before_root : root ≤ d → Digits m (root - 1)
+  before_root h = nearest_is m (root - 1) digits.0 digits.1 (omega (arith, last, pred_square root (omega (arith, last)))) (omega (arith, last, pred_square root (omega (arith, last))))
