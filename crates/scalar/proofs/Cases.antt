@@ -12,9 +12,18 @@ use lib.Ieee.Bits.{of_bits-fits, of_bits-to_bits, to_bits-lt}
 use lib.Ieee.Exact.{HasValue}
 use lib.Ieee.Positive.{positive, above}
 use borrow.Author.Tests.{lt-ltb, ltb-true}
+use Rattle.std.specs.Float.{float_with_sign}
+use Rattle.scalar.specs.Scalar.{abs_of}
 use Rattle.scalar.specs.Sqrt.{sqrt_of}
 use Rattle.scalar.proofs.Patterns.{not_above, sqrt_below}
 use Rattle.scalar.proofs.Nearest.{rooted}
+
+-- ---- the absolute value as std has it
+pub sign_cleared : (x : Float) → float_with_sign false x ≡ abs_of x
+unfolding float_with_sign abs_of
+sign_cleared nan = refl
+sign_cleared (inf s) = refl
+sign_cleared (fin s m e) = refl
 
 -- ---- what the comparisons with zero say
 size_pos : (m u : ℕ) → 0 < u → 0 < suc m * u * 1
@@ -109,12 +118,6 @@ positive_bits b l p =
     omega (arith, low, a, c, d, g)
 
 -- ---- above zero, the patterns of the finite values are those below infinity's
-pub above_number : (x : Float) → lt (of_bits binary64 0) x ≡ true → T (not (is_nan x))
-unfolding lt of_bits is_nan
-above_number nan h = absurd (false≢true h)
-above_number (inf s) h = tt
-above_number (fin s m e) h = tt
-
 below_infinity : (x : Float) → T (fits binary64 x) → T (positive x) → ltb (to_bits binary64 x) (2047 * 2 ^ 52) ≡ true
 below_infinity x f p =
     let b = positive_bits (to_bits binary64 x) (to_bits-lt binary64 x f) (subst (λ (v : Float). T (positive v)) (sym (of_bits-to_bits binary64 x f)) p) in

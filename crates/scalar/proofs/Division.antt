@@ -24,7 +24,7 @@ nearest_is m r lo hi a b = elim (eq-zero-or-pos (r * r - m * 2 ^ 52)) [
 ]
 
 -- ---- from 31 digits to 53, by one division: (s * 2 ^ 22 - k) ^ 2 against m * 2 ^ 52
-module _ (m s excess : ℕ) (digits : (2 ^ 52 ≤ m) × (m ≤ 2 ^ 54 - 2)) (close : (0 < excess) × (excess ≤ 27 * s)) (above : m * 256 + excess ≡ s * s) where
+module _ (m s excess : ℕ) (digits : (2 ^ 52 ≤ m) × (m ≤ 2 ^ 54 - 2)) (close : excess ≤ 27 * s) (above : m * 256 + excess ≡ s * s) where
   abbrev over : ℕ
   over = excess * 2 ^ 21
 
@@ -34,8 +34,8 @@ module _ (m s excess : ℕ) (digits : (2 ^ 52 ≤ m) × (m ≤ 2 ^ 54 - 2)) (clo
   abbrev root : ℕ
   root = s * 2 ^ 22 - k
 
-  s_low : 2 ^ 30 < s
-  s_low = square_lt (2 ^ 30) s (omega arith)
+  s_low : 2 ^ 30 ≤ s
+  s_low = omega (arith, square_lt (2 ^ 30) (s + 1) (omega (arith, square_next s)))
 
   s_high : s < 2 ^ 32
   s_high = lt_of_not-le (λ (g : 2 ^ 32 ≤ s). large g (mul-le-mul_right s g))
@@ -47,7 +47,7 @@ module _ (m s excess : ℕ) (digits : (2 ^ 52 ≤ m) × (m ≤ 2 ^ 54 - 2)) (clo
   s_pos = omega (arith, s_low)
 
   pub record Last : Type 0 where
-    pub low : 2 ^ 30 < s
+    pub low : 2 ^ 30 ≤ s
     pub high : s < 2 ^ 32
     pub rest : over % s < s
     pub small : k ≤ 27 * 2 ^ 21

@@ -173,5 +173,5 @@ nan_by_division = refl
 pub not_above : (b : ℕ) → T (not (is_nan (of_bits binary64 b))) → b % 2 ^ 63 ≤ 2047 * 2 ^ 52
 not_above b h = nltb→le (2047 * 2 ^ 52) (b % 2 ^ 63) (subst (λ (t : Bool). T (not t)) (sym (nan_bits_is binary64 b) ∙ nan_bits_above binary64 b) h)
 
-pub no_nan : (b q k : ℕ) → of_bits binary64 b ≡ units binary64 false q k → T (not (nan_bits binary64 b))
-no_nan b q k e = subst (λ (t : Bool). T (not t)) (sym (nan_bits_is binary64 b ∙ ap is_nan e ∙ units_number q k)) tt
+pub no_nan : (q k : ℕ) → 2 ^ 52 ≤ q → q < 2 ^ 53 → k < 2046 → T (not (nan_bits binary64 (k * 2 ^ 52 + q)))
+no_nan q k a b l = subst (λ (t : Bool). T (not t)) (sym (nan_bits_is binary64 (k * 2 ^ 52 + q) ∙ ap is_nan (write q k a b l) ∙ units_number q k)) tt

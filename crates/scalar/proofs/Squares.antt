@@ -1,6 +1,6 @@
 -- Squares of whole numbers. Assumes nothing.
 use mathlib.Core.Path.{◌≡◌, sym, ap, ◌∙◌}
-use Prim.Native.Nat.{ℕ, suc, ◌+◌, ◌-◌, ◌*◌, ◌^◌, ◌≤◌, ◌<◌}
+use Prim.Native.Nat.{ℕ, suc, ◌+◌, ◌-◌, ◌*◌, ◌/◌, ◌%◌, ◌^◌, ◌≤◌, ◌<◌}
 use native.Mathlib.Nat.{lt_of_lt_of_le, lt_of_not-le, lt_irrefl, le_trans, le_of_eq, mul-le-mul_right, mul_assoc, mul_comm, mul_left_comm, mul-add, add-mul, one-mul, pow-succ'}
 use native.Mathlib.Omega.{arith}
 use lib.Pow.{pow-add, pow_mono, shl_lt}
@@ -20,23 +20,17 @@ square_odd r =
     let b = square_even r in
     omega arith
 
--- ---- a factor 2 goes from the power to the significand
-pub moved : (s e : ℕ) → 1 ≤ e → 2 * s * 2 ^ (e - 1) ≡ s * 2 ^ e
-moved s e h =
-    let k : e ≡ suc (e - 1) = omega arith in
-    mul_assoc 2 s (2 ^ (e - 1)) ∙ mul_left_comm 2 s (2 ^ (e - 1)) ∙ ap (λ (x : ℕ). s * x) (sym (pow-succ' 2 (e - 1)) ∙ ap (λ (j : ℕ). 2 ^ j) (sym k))
+-- ---- a power of two as one of four, with a factor 2 left over where its exponent is odd
+pub even_power : (s e : ℕ) → e % 2 ≡ 0 → s * 2 ^ (2 * (e / 2)) ≡ s * 2 ^ e
+even_power s e h =
+    let whole : 2 * (e / 2) ≡ e = omega arith in
+    ap (λ (j : ℕ). s * 2 ^ j) whole
 
--- s * 2 ^ e is 2 ^ (53 + k) at least, so with an s below 2 ^ 53 e is above k
-pub still_high : (s e s₀ e₀ k : ℕ) → s * 2 ^ e ≡ s₀ * 2 ^ e₀ → 0 < s₀ → s < 2 ^ 53 → 53 + k ≤ e₀ → k < e
-still_high s e s₀ e₀ k h p l g =
-    lt_of_not-le (λ (n : e ≤ k).
-    lt_irrefl (s * 2 ^ e)
-    (lt_of_lt_of_le (shl_lt 53 e l)
-    (le_trans (pow_mono (room n))
-    (le_trans (le_of_eq (sym (one-mul (2 ^ e₀)))) (le_trans (mul-le-mul_right (2 ^ e₀) p) (le_of_eq (sym h)))))))
-  where
-    room : e ≤ k → 53 + e ≤ e₀
-    room n = omega arith
+pub odd_power : (s e : ℕ) → (e % 2 ≡ 0 → ⊥) → 2 * s * 2 ^ (2 * (e / 2)) ≡ s * 2 ^ e
+odd_power s e h =
+    let j = 2 * (e / 2) in
+    let next : suc j ≡ e = omega arith in
+    mul_assoc 2 s (2 ^ j) ∙ mul_left_comm 2 s (2 ^ j) ∙ ap (λ (x : ℕ). s * x) (sym (pow-succ' 2 j) ∙ ap (λ (i : ℕ). 2 ^ i) next)
 
 -- 52 factors 2 out of the power
 pub shifted : (s e : ℕ) → 52 ≤ e → s * 2 ^ 52 * 2 ^ (e - 52) ≡ s * 2 ^ e

@@ -18,6 +18,7 @@ ghost use Rattle.scalar.specs.Scalar.{abs_of};
 pub const EPSILON: f64 = 2.220446049250313e-16;
 
 // x with its sign cleared.
+#[tactic(auto, using(crate::proofs::Cases::sign_cleared))]
 pub fn abs(x: f64) -> f64
     ensures { result ≡ abs_of x }
 {
@@ -145,12 +146,13 @@ struct Radicand {
 impl From<Normal> for Radicand {
     ghost from_gives = { λ n r. r.significand * 2 ^ (2 * r.exponent) ≡ (2 ^ 52 + n.bits % 2 ^ 52) * 2 ^ (n.bits / 2 ^ 52 + 1021 - 2 * n.fours) };
 
+    #[tactic(auto, using(crate::proofs::Squares::even_power, crate::proofs::Squares::odd_power))]
     fn from(n: Normal) -> Radicand {
         let digits = 0x10_0000_0000_0000 + n.bits % 0x10_0000_0000_0000;
-        let exponent = n.bits / 0x10_0000_0000_0000 + 1021;
+        let exponent = n.bits / 0x10_0000_0000_0000 + 1021 - 2 * n.fours;
         Radicand {
             significand: if exponent % 2 == 0 { digits } else { 2 * digits },
-            exponent: exponent / 2 - n.fours,
+            exponent: exponent / 2,
             guess: n.guess(),
         }
     }
@@ -158,6 +160,7 @@ impl From<Normal> for Radicand {
 
 impl Radicand {
     // The root, rounded to the nearest value.
+    #[tactic(auto, using(crate::proofs::Patterns::write, crate::proofs::Patterns::no_nan))]
     fn root(self) -> f64
         ensures { result ≡ rounded (self.significand * 2 ^ 52 * 2 ^ (2 * self.exponent)) }
     {
@@ -175,8 +178,8 @@ impl Radicand {
         ensures { IfSome result (λ a. a.radicand ≡ self) }
     {
         let excess = (self.guess * self.guess).checked_sub(self.significand * 256)?;
-        // the root is above 2^30
-        if 0 < excess && excess <= 0x6_c000_0000 {
+        // 27 * 2^30, and the root is 2^30 at least
+        if excess <= 0x6_c000_0000 {
             Some(Above {
                 radicand: self,
                 root: self.guess,
@@ -208,7 +211,7 @@ struct Above {
     radicand: Radicand,
     root: u64,
     excess: u64,
-    ghost close: { (0 < excess) × (excess ≤ 27 * root) },
+    ghost close: { excess ≤ 27 * root },
     ghost exact: { radicand.significand * 256 + excess ≡ root * root },
 }
 
@@ -227,6 +230,7 @@ impl Above {
 }
 
 // The root of any x but a positive finite one: a NaN below zero, and x itself at a zero, +infinity and a NaN.
+#[tactic(auto, using(crate::proofs::Cases::special_below, crate::proofs::Cases::special_itself, crate::proofs::Patterns::nan_by_division))]
 fn special(x: f64) -> f64
     requires { positive x ≡ false }
     ensures { result ≡ sqrt_of x }

@@ -2,6 +2,9 @@ use Rattle.std.proofs.Common.{arith}
 use Rattle.scalar.proofs.Division.{last, at_root, before_root}
 use Rattle.scalar.proofs.Above.digits.Goals as goal
 
+pub overflow_mul-d-2 : goal.overflow_mul-d-2
+overflow_mul-d-2 c = let a = c.args.self in omega (arith, last _ _ _ a.radicand.digits a.close a.exact)
+
 pub overflow_add-d : goal.overflow_add-d
 overflow_add-d c = let a = c.args.self in omega (arith, last _ _ _ a.radicand.digits a.close a.exact)
 
