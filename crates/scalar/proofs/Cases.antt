@@ -1,7 +1,7 @@
 -- The values other than the positive finite ones, and which patterns those have. Assumes nothing.
-use mathlib.Core.Path.{◌≡◌, refl, sym, ◌∙◌, subst}
+use mathlib.Core.Path.{◌≡◌, refl, sym, ap, ◌∙◌, subst}
 use mathlib.Core.Bool.{true, false, not, true≢false, false≢true}
-use Prim.Native.Nat.{ℕ, zero, suc, ◌+◌, ◌*◌, ◌^◌, ◌<◌}
+use Prim.Native.Nat.{ℕ, zero, suc, ◌+◌, ◌*◌, ◌^◌, ◌<◌, ◌≤◌}
 use native.Mathlib.Nat.{mul-pos, zero-lt-suc, zero-mul}
 use native.Mathlib.Omega.{arith}
 use lib.IntN.{ℤ}
@@ -11,7 +11,7 @@ use lib.Ieee.Fits.{up_pos}
 use lib.Ieee.Bits.{of_bits-fits, of_bits-to_bits, to_bits-lt}
 use lib.Ieee.Exact.{HasValue}
 use lib.Ieee.Positive.{positive, above}
-use borrow.Author.Tests.{lt-ltb, ltb-true}
+use borrow.Author.Tests.{lt-ltb, le-ltb, ltb-true}
 use Rattle.std.specs.Float.{float_with_sign}
 use Rattle.scalar.specs.Scalar.{abs_of}
 use Rattle.scalar.specs.Sqrt.{sqrt_of}
@@ -57,13 +57,13 @@ pub minus_below : (m : ℕ) (e : ℤ) → lt (fin true (suc m) e) (of_bits binar
 unfolding lt of_bits
 minus_below m e = nothing_above m (up e) (down e) (up_pos e)
 
-pub ordinary_not : (x : Float) → lt (of_bits binary64 0) x ≡ false → false ≡ positive x
+pub none_above : (x : Float) → lt (of_bits binary64 0) x ≡ false → positive x ≡ false
 unfolding lt of_bits
-ordinary_not nan h = refl
-ordinary_not (inf s) h = refl
-ordinary_not (fin true m e) h = refl
-ordinary_not (fin false zero e) h = refl
-ordinary_not (fin false (suc m) e) h = absurd (true≢false (sym (above_nothing m (up e) (down e) (up_pos e)) ∙ h))
+none_above nan h = refl
+none_above (inf s) h = refl
+none_above (fin true m e) h = refl
+none_above (fin false zero e) h = refl
+none_above (fin false (suc m) e) h = absurd (true≢false (sym (above_nothing m (up e) (down e) (up_pos e)) ∙ h))
 
 pub special_below : (x : Float) → lt x (of_bits binary64 0) ≡ true → sqrt_of x ≡ nan
 unfolding lt of_bits sqrt_of
@@ -123,7 +123,7 @@ below_infinity x f p =
     let b = positive_bits (to_bits binary64 x) (to_bits-lt binary64 x f) (subst (λ (v : Float). T (positive v)) (sym (of_bits-to_bits binary64 x f)) p) in
     lt-ltb (to_bits binary64 x) (2047 * 2 ^ 52) b.1
 
-pub ordinary_if : (x : Float) → T (fits binary64 x) → lt (of_bits binary64 0) x ≡ true → ltb (to_bits binary64 x) (2047 * 2 ^ 52) ≡ positive x
+ordinary_if : (x : Float) → T (fits binary64 x) → lt (of_bits binary64 0) x ≡ true → ltb (to_bits binary64 x) (2047 * 2 ^ 52) ≡ positive x
 unfolding lt of_bits to_bits
 ordinary_if nan f h = absurd (false≢true h)
 ordinary_if (inf true) f h = absurd (false≢true h)
@@ -131,3 +131,13 @@ ordinary_if (inf false) f h = refl
 ordinary_if (fin true m e) f h = absurd (false≢true h)
 ordinary_if (fin false zero e) f h = absurd (zero_not_above (up e) (down e) h)
 ordinary_if (fin false (suc m) e) f h = below_infinity (fin false (suc m) e) f (lt→ltb 0 (suc m) (zero-lt-suc m)) ∙ sym (lt-ltb 0 (suc m) (zero-lt-suc m))
+
+pub finite_above : (x : Float) → fits binary64 x ≡ true → lt (of_bits binary64 0) x ≡ true → to_bits binary64 x < 2047 * 2 ^ 52 → (0 < to_bits binary64 x) × (sqrt_of (of_bits binary64 (to_bits binary64 x)) ≡ sqrt_of x)
+finite_above x f h l =
+    let held = subst T (sym f) tt in
+    let back = of_bits-to_bits binary64 x held in
+    let p : T (positive x) = subst T (sym (lt-ltb (to_bits binary64 x) (2047 * 2 ^ 52) l) ∙ ordinary_if x held h) tt in
+    ((positive_bits (to_bits binary64 x) (to_bits-lt binary64 x held) (subst (λ (v : Float). T (positive v)) (sym back) p)).0, ap sqrt_of back)
+
+pub infinite_above : (x : Float) → fits binary64 x ≡ true → lt (of_bits binary64 0) x ≡ true → 2047 * 2 ^ 52 ≤ to_bits binary64 x → positive x ≡ false
+infinite_above x f h l = sym (ordinary_if x (subst T (sym f) tt) h) ∙ le-ltb (to_bits binary64 x) (2047 * 2 ^ 52) l

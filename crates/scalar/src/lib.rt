@@ -36,6 +36,7 @@ struct Normal {
 
 impl Normal {
     // No other x is one.
+    #[tactic(auto, using(crate::proofs::Cases::finite_above, crate::proofs::Cases::infinite_above, crate::proofs::Cases::none_above))]
     fn of(x: f64) -> Option<Normal>
         ensures { MatchOption result (positive x ≡ false) (λ n. sqrt_of x ≡ rounded ((2 ^ 52 + n.bits % 2 ^ 52) * 2 ^ 52 * 2 ^ (n.bits / 2 ^ 52 + 1021 - 2 * n.fours))) }
     {
