@@ -14,6 +14,8 @@ ghost use Rattle.std.specs.Float.Ieee.{of_bits, units};
 ghost use Rattle.scalar.specs.Sqrt.{rounded, sqrt_of};
 ghost use Rattle.scalar.specs.Scalar.{abs_of};
 
+use std::marker::Model;
+
 // f64's epsilon, 2^-52.
 pub const EPSILON: f64 = 2.220446049250313e-16;
 
@@ -26,19 +28,26 @@ pub fn abs(x: f64) -> f64
 }
 
 // A positive finite number: the normal number that has these bits, divided by 4^fours.
-#[derive(Clone, Copy)]
+#[derive(Drop)]
 struct Normal {
     bits: u64,
     fours: u64,
-    ghost normal: { (2 ^ 52 ≤ bits) × (bits < 2047 * 2 ^ 52) },
-    ghost few: { fours ≤ 26 },
+}
+
+// Its contracts see the radicand of its root.
+impl Model for Normal {
+    ghost Value = { ℕ };
+
+    ghost view = { λ n. (2 ^ 52 + n.bits % 2 ^ 52) * 2 ^ 52 * 2 ^ (n.bits / 2 ^ 52 + 1021 - 2 * n.fours) };
+
+    ghost invariant = { λ n. (2 ^ 52 ≤ n.bits) × (n.bits < 2047 * 2 ^ 52) × (n.fours ≤ 26) };
 }
 
 impl Normal {
     // No other x is one.
     #[tactic(auto, using(crate::proofs::Cases::finite_above, crate::proofs::Cases::infinite_above, crate::proofs::Cases::none_above))]
     fn of(x: f64) -> Option<Normal>
-        ensures { MatchOption result (positive x ≡ false) (λ n. sqrt_of x ≡ rounded ((2 ^ 52 + n.bits % 2 ^ 52) * 2 ^ 52 * 2 ^ (n.bits / 2 ^ 52 + 1021 - 2 * n.fours))) }
+        ensures { MatchOption result (positive x ≡ false) (λ n. sqrt_of x ≡ rounded n) }
     {
         if x > 0.0 {
             let bits = x.to_bits();
@@ -52,7 +61,7 @@ impl Normal {
     // A subnormal number is multiplied by 4 until it is normal.
     fn scaled(bits: u64) -> Normal
         requires { (0 < bits) × (bits < 2047 * 2 ^ 52) }
-        ensures { sqrt_of (of_bits binary64 bits) ≡ rounded ((2 ^ 52 + result.bits % 2 ^ 52) * 2 ^ 52 * 2 ^ (result.bits / 2 ^ 52 + 1021 - 2 * result.fours)) }
+        ensures { sqrt_of (of_bits binary64 bits) ≡ rounded result }
     {
         if bits >= 0x10_0000_0000_0000 {
             return Normal { bits, fours: 0 };
@@ -66,7 +75,7 @@ impl Normal {
 
     // A guess at the root of the radicand's significand * 2^8: above it, by less than 8. The contract does not
     // say so, since the guess is tested.
-    fn guess(self) -> u64
+    fn guess(&self) -> u64
         ensures { result < 2 ^ 32 }
     {
         // the exponent's parity and three digits choose the part, and 32 digits are the place in it
@@ -145,14 +154,18 @@ struct Radicand {
 }
 
 impl From<Normal> for Radicand {
-    ghost from_gives = { λ n r. r.significand * 2 ^ (2 * r.exponent) ≡ (2 ^ 52 + n.bits % 2 ^ 52) * 2 ^ (n.bits / 2 ^ 52 + 1021 - 2 * n.fours) };
+    ghost from_gives = { λ n r. r.significand * 2 ^ 52 * 2 ^ (2 * r.exponent) ≡ n };
 
     #[tactic(auto, using(crate::proofs::Squares::even_power, crate::proofs::Squares::odd_power))]
     fn from(n: Normal) -> Radicand {
         let digits = 0x10_0000_0000_0000 + n.bits % 0x10_0000_0000_0000;
         let exponent = n.bits / 0x10_0000_0000_0000 + 1021 - 2 * n.fours;
         Radicand {
-            significand: if exponent % 2 == 0 { digits } else { 2 * digits },
+            significand: if exponent % 2 == 0 {
+                digits
+            } else {
+                2 * digits
+            },
             exponent: exponent / 2,
             guess: n.guess(),
         }

@@ -51,7 +51,7 @@ overflow_add-result c = omega (arith, shift c.args.bits (omega arith) (omega ari
 pub invariant_of-result-2 : goal.invariant_of-result-2
 invariant_of-result-2 c =
     let s = shift c.args.bits (omega arith) (omega arith) in
-    record { normal = (omega (arith, s), omega (arith, s)); few = omega (arith, s) }
+    (omega (arith, s), omega (arith, s), omega (arith, s))
 
 pub returns : goal.returns
 returns c =
