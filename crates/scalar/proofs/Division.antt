@@ -35,7 +35,7 @@ module _ (m s excess : ℕ) (digits : (2 ^ 52 ≤ m) × (m ≤ 2 ^ 54 - 2)) (clo
   root = s * 2 ^ 22 - k
 
   s_low : 2 ^ 30 ≤ s
-  s_low = omega (arith, square_lt (2 ^ 30) (s + 1) (omega (arith, square_next s)))
+  s_low = omega (arith, square_lt (2 ^ 30) (s + 1) (grind arith))
 
   s_high : s < 2 ^ 32
   s_high = lt_of_not-le (λ (g : 2 ^ 32 ≤ s). large g (mul-le-mul_right s g))
@@ -67,7 +67,7 @@ module _ (m s excess : ℕ) (digits : (2 ^ 52 ≤ m) × (m ≤ 2 ^ 54 - 2)) (clo
         rest = mod-lt over s_pos;
         small = k_small;
         square = mul-le-mul k_small k_small;
-        exact = omega (arith, square_sum root k, add-mul root k k, mul_comm s k);
+        exact = grind arith;
       }
 
   abbrev d : ℕ

@@ -111,7 +111,7 @@ square_units a k = mul-mul-mul_comm a (2 ^ k) a (2 ^ k) ∙ ap (λ (x : ℕ). a 
     twice k = omega arith
 
 square_mono : (a b : ℕ) → a < b → a * a < b * b
-square_mono a b h = omega (arith, square_next a, mul-le-mul (next a b h) (next a b h))
+square_mono a b h = grind (arith, mul-le-mul (next a b h) (next a b h))
   where
     next : (a b : ℕ) → a < b → a + 1 ≤ b
     next a b h = omega arith
@@ -145,7 +145,7 @@ module _ (M k q b : ℕ) (g : (b ≤ q * 2 ^ k) ⊎ ((q + 1) * 2 ^ k ≤ b)) whe
   nearer_down lo hi = (
     λ (h : q * 2 ^ k < b). elim g [
       | inl d ↦ absurd (not-le_of_lt h d)
-      | inr d ↦ below_square (2 * q + 1) (q * 2 ^ k + b) (omega (arith, square_odd q)) (omega (arith, middle q k))
+      | inr d ↦ below_square (2 * q + 1) (q * 2 ^ k + b) (grind arith) (omega (arith, middle q k))
     ],
     λ (h : b < q * 2 ^ k).
         omega (arith, square_mono (q * 2 ^ k + b) (2 * (q * 2 ^ k)) (omega arith), twice_square q, mul-le-mul_right (2 ^ (2 * k)) lo),
@@ -156,7 +156,7 @@ module _ (M k q b : ℕ) (g : (b ≤ q * 2 ^ k) ⊎ ((q + 1) * 2 ^ k ≤ b)) whe
     λ (h : (q + 1) * 2 ^ k < b).
         omega (arith, square_mono (2 * ((q + 1) * 2 ^ k)) ((q + 1) * 2 ^ k + b) (omega arith), twice_square (q + 1), mul-lt-mul_of_pos_right hi (pow_pos (2 * k))),
     λ (h : b < (q + 1) * 2 ^ k). elim g [
-      | inl d ↦ above_square (2 * q + 1) ((q + 1) * 2 ^ k + b) (omega (arith, square_odd q)) (omega (arith, middle q k))
+      | inl d ↦ above_square (2 * q + 1) ((q + 1) * 2 ^ k + b) (grind arith) (omega (arith, middle q k))
       | inr d ↦ absurd (not-le_of_lt h d)
     ],
   )

@@ -24,12 +24,12 @@ extend_root n r h = go (leb (suc (2 * r) * suc (2 * r)) n) (leb→le (suc (2 * r
 
     go : (b : Bool) → (T b → suc (2 * r) * suc (2 * r) ≤ n) → (T (not b) → n < suc (2 * r) * suc (2 * r)) → IsRoot n (cond b (suc (2 * r)) (2 * r))
     go true y z =
-        let a : (suc (2 * r) + 1) * (suc (2 * r) + 1) ≡ 4 * ((r + 1) * (r + 1)) = ap (λ (x : ℕ). x * x) (twice r) ∙ square_even (r + 1) in
+        let a : (suc (2 * r) + 1) * (suc (2 * r) + 1) ≡ 4 * ((r + 1) * (r + 1)) = ap (λ (x : ℕ). x * x) (twice r) ∙ grind arith in
         (y tt, omega (arith, h.1))
       where
         twice : (r : ℕ) → suc (2 * r) + 1 ≡ 2 * (r + 1)
         twice r = omega arith
-    go false y z = (omega (arith, square_even r, h.0), omega (arith, suc_square, z tt))
+    go false y z = (grind (arith, h.0), omega (arith, suc_square, z tt))
 
 pub root_is_root : (d n : ℕ) → n < 4 ^ d → IsRoot n (root d n)
 unfolding root
@@ -90,15 +90,15 @@ module _ (M k : ℕ) (lo : 2 ^ 104 ≤ M) (hi : M < 2 ^ 106) where
 
   pub rounded_down : (q : ℕ) → q * q ≤ M → M ≤ q * q + q → rounded (M * 2 ^ (2 * k)) ≡ units binary64 false q k
   rounded_down q a b =
-      rounded_is q Ordering.lt (a, omega (arith, square_next q))
+      rounded_is q Ordering.lt (a, grind arith)
       (compare_lt (4 * (M * 2 ^ (2 * k))) ((2 * q + 1) * (2 * q + 1) * 2 ^ (2 * k))
-      (lt_of_le_of_lt (le_of_eq (sym (mul_assoc 4 M (2 ^ (2 * k))))) (mul-lt-mul_of_pos_right (omega (arith, square_odd q)) (pow_pos (2 * k)))))
+      (lt_of_le_of_lt (le_of_eq (sym (mul_assoc 4 M (2 ^ (2 * k))))) (mul-lt-mul_of_pos_right (grind arith) (pow_pos (2 * k)))))
 
   pub rounded_up : (q : ℕ) → q * q + q < M → M < (q + 1) * (q + 1) → rounded (M * 2 ^ (2 * k)) ≡ units binary64 false (q + 1) k
   rounded_up q a b =
       rounded_is q Ordering.gt (omega arith, b)
       (compare_gt (4 * (M * 2 ^ (2 * k))) ((2 * q + 1) * (2 * q + 1) * 2 ^ (2 * k))
-      (lt_of_lt_of_le (mul-lt-mul_of_pos_right (omega (arith, square_odd q)) (pow_pos (2 * k))) (le_of_eq (mul_assoc 4 M (2 ^ (2 * k))))))
+      (lt_of_lt_of_le (mul-lt-mul_of_pos_right (grind arith) (pow_pos (2 * k))) (le_of_eq (mul_assoc 4 M (2 ^ (2 * k))))))
       ∙ ap (λ (x : ℕ). units binary64 false x k) (sym (add-one q))
 
 -- ---- the 53 digits of the result, from the whole root q of m * 2 ^ 52 and the remainder e
@@ -107,7 +107,7 @@ Digits m r = (2 ^ 52 ≤ r) × (r < 2 ^ 53) × ((k : ℕ) → rounded (m * 2 ^ 5
 
 module _ (m q e : ℕ) (lo : 2 ^ 52 ≤ m) (hi : m ≤ 2 ^ 54 - 2) (is : q * q + e ≡ m * 2 ^ 52) (rest : e ≤ 2 * q) where
   at_least : 2 ^ 52 ≤ q
-  at_least = omega (arith, square_lt (2 ^ 52) (q + 1) (omega (arith, square_next q)))
+  at_least = omega (arith, square_lt (2 ^ 52) (q + 1) (grind arith))
 
   at_most : q < 2 ^ 53
   at_most = square_lt q (2 ^ 53) (omega arith)
@@ -117,10 +117,10 @@ module _ (m q e : ℕ) (lo : 2 ^ 52 ≤ m) (hi : m ≤ 2 ^ 54 - 2) (is : q * q +
 
   pub digits_up : q < e → Digits m (q + 1)
   digits_up h =
-      (omega (arith, at_least), next_lt, λ k. rounded_up (m * 2 ^ 52) k (omega arith) (omega arith) q (omega arith) (omega (arith, square_next q)))
+      (omega (arith, at_least), next_lt, λ k. rounded_up (m * 2 ^ 52) k (omega arith) (omega arith) q (omega arith) (grind arith))
     where
       next_lt : q + 1 < 2 ^ 53
       next_lt = lt_of_not-le (λ (g : 2 ^ 53 ≤ q + 1). clash (mul-le-mul g g))
         where
           clash : 2 ^ 53 * 2 ^ 53 ≤ (q + 1) * (q + 1) → ⊥
-          clash l = omega (arith, square_next q, at_most)
+          clash l = grind (arith, at_most)
