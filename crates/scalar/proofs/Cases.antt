@@ -27,22 +27,22 @@ sign_cleared (fin s m e) = refl
 
 -- ---- what the comparisons with zero say
 size_pos : (m u : ℕ) → 0 < u → 0 < suc m * u * 1
-size_pos m u h = mul-pos (mul-pos (zero-lt-suc m) h) (zero-lt-suc 0)
+size_pos m u h = grind arith
 
 above_nothing : (m u z : ℕ) → 0 < u → ltb (0 * z) (suc m * u * 1) ≡ true
-above_nothing m u z h = lt-ltb (0 * z) (suc m * u * 1) (subst (λ (x : ℕ). x < suc m * u * 1) (sym (zero-mul z)) (size_pos m u h))
+above_nothing m u z h = grind arith
 
 nothing_above : (m u z : ℕ) → 0 < u → ltb 0 (suc m * u * 1 + 0 * z) ≡ true
-nothing_above m u z h = lt-ltb 0 (suc m * u * 1 + 0 * z) (omega (arith, size_pos m u h))
+nothing_above m u z h = grind arith
 
 not_below_zero : (a z : ℕ) → ltb a (0 * z) ≡ true → ⊥
-not_below_zero a z h = omega (arith, ltb-true a (0 * z) h)
+not_below_zero a z h = grind arith
 
 zero_not_above : (u z : ℕ) → ltb (0 * z) (0 * u * 1) ≡ true → ⊥
-zero_not_above u z h = omega (arith, ltb-true (0 * z) (0 * u * 1) h)
+zero_not_above u z h = grind arith
 
 zero_not_below : (u z : ℕ) → ltb 0 (0 * u * 1 + 0 * z) ≡ true → ⊥
-zero_not_below u z h = omega (arith, ltb-true 0 (0 * u * 1 + 0 * z) h)
+zero_not_below u z h = grind arith
 
 -- to be above zero
 pub zero_lt : (x : Float) → lt (of_bits binary64 0) x ≡ true → T (above x)

@@ -35,13 +35,10 @@ module _ (m s excess : ℕ) (digits : (2 ^ 52 ≤ m) × (m ≤ 2 ^ 54 - 2)) (clo
   root = s * 2 ^ 22 - k
 
   s_low : 2 ^ 30 ≤ s
-  s_low = omega (arith, square_lt (2 ^ 30) (s + 1) (grind arith))
+  s_low = grind arith
 
   s_high : s < 2 ^ 32
-  s_high = lt_of_not-le (λ (g : 2 ^ 32 ≤ s). large g (mul-le-mul_right s g))
-    where
-      large : 2 ^ 32 ≤ s → 2 ^ 32 * s ≤ s * s → ⊥
-      large g w = omega arith
+  s_high = grind arith
 
   s_pos : 0 < s
   s_pos = omega (arith, s_low)

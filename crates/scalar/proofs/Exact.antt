@@ -90,7 +90,7 @@ round_one : (a : ℕ) → 0 < a → round binary64 false a a ≡ f1
 round_one a h = round_same binary64 false a a 1 1 h (zero-lt-suc 0) (mul-one a ∙ sym (one-mul a)) ∙ (unfold round of_bits in refl)
 
 not_zero : (m : ℕ) → T (ltb 0 m) → eqb m 0 ≡ false
-not_zero m p = let l = ltb→lt 0 m p in ne_eqb m 0 (λ (e : m ≡ 0). omega arith)
+not_zero m p = grind arith
 
 pub zero_times : (x : Float) → T (positive x) → mul binary64 f0 x ≡ f0
 unfolding mul of_bits

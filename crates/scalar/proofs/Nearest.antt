@@ -36,7 +36,7 @@ top_not_finite false s t = t
 
 fields_finite : (s : Bool) (t : ℕ) → T (finite (of_fields binary64 s 2047 t)) → ⊥
 unfolding of_fields
-fields_finite s t h = top_not_finite (eqb t 0) s h
+fields_finite s t h = grind arith
 
 fields_grid : (s : Bool) (x t : ℕ) → x < 2048 → t < 2 ^ 52 → T (finite (of_fields binary64 s x t)) → Grid (of_fields binary64 s x t)
 fields_grid s zero t l h f = subst Grid (sym (fields_low s t)) (s, t, 0, odd_sign 53 s t 0 1074, omega arith, omega arith)
@@ -111,17 +111,11 @@ square_units a k = mul-mul-mul_comm a (2 ^ k) a (2 ^ k) ∙ ap (λ (x : ℕ). a 
     twice k = omega arith
 
 square_mono : (a b : ℕ) → a < b → a * a < b * b
-square_mono a b h = grind (arith, mul-le-mul (next a b h) (next a b h))
-  where
-    next : (a b : ℕ) → a < b → a + 1 ≤ b
-    next a b h = omega arith
+square_mono a b h = grind arith
 
 -- the midpoint of q * 2 ^ k and (q + 1) * 2 ^ k, doubled
 middle : (q k : ℕ) → q * 2 ^ k + (q + 1) * 2 ^ k ≡ (2 * q + 1) * 2 ^ k
-middle q k = sym (add-mul q (q + 1) (2 ^ k)) ∙ ap (λ (x : ℕ). x * 2 ^ k) (both q)
-  where
-    both : (q : ℕ) → q + (q + 1) ≡ 2 * q + 1
-    both q = omega arith
+middle q k = grind arith
 
 -- ---- the nearest value, from the whole root q of M
 module _ (M k q b : ℕ) (g : (b ≤ q * 2 ^ k) ⊎ ((q + 1) * 2 ^ k ≤ b)) where
@@ -262,12 +256,7 @@ sqrt_nearest x h p =
 
 -- m is nearest to the root of a, n to that of b, and each is nearer than the other
 pub in_order : (a b m n u : ℕ) → a ≤ b → Nearer (a * u) m n → Nearer (b * u) n m → m ≤ n
-in_order a b m n u h p q =
-    le_of_suc-le-suc (lt_of_not-le (λ (g : suc n ≤ m).
-    clash (mul-le-mul_right u h) (p.1 g) (q.0 g) (ap (λ (x : ℕ). x * x) (add_comm m n))))
-  where
-    clash : a * u ≤ b * u → (m + n) * (m + n) < 4 * (a * u) → 4 * (b * u) < (n + m) * (n + m) → (m + n) * (m + n) ≡ (n + m) * (n + m) → ⊥
-    clash c d e f = omega arith
+in_order a b m n u h p q = grind arith
 
 -- a value of the format that is above zero is known by its size
 same_size : (x y : Float) → T (fits binary64 x) → T (fits binary64 y) → T (positive x) → T (positive y) → in_units x ≡ in_units y → x ≡ y

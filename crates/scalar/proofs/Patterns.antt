@@ -69,7 +69,7 @@ odd_more d s (suc q) k l h = ap (λ (t : ℕ). fin s (suc q / 2 ^ t) (minus (k +
 
 pub units_is : (q k : ℕ) → q * 2 ^ k < 2 ^ 2098 → units binary64 false q k ≡ odd 54 false q k 1074
 unfolding units
-units_is q k h = ap (λ (b : Bool). cond b (odd 54 false q k 1074) (inf false)) (lt-ltb (q * 2 ^ k) (2 ^ 2098) h)
+units_is q k h = grind arith
 
 below_top : (q k : ℕ) → q < 2 ^ 53 → k < 2046 → q * 2 ^ k < 2 ^ 2098
 below_top q k h l = lt_of_lt_of_le (shl_lt 53 k h) (pow_mono (room k l))
@@ -89,10 +89,10 @@ write q k a b l =
 
 -- ---- `sqrt_of` of a number of units
 no_value : (a d : ℕ) → 0 < a → 0 < d → 0 ≡ a * d → ⊥
-no_value a d h k e = lt_irrefl 0 (subst (λ (x : ℕ). 0 < x) (sym e) (mul-pos h k))
+no_value a d h k e = grind arith
 
 zero_value : (u c : ℕ) → 0 * u * c ≡ 0
-zero_value u c = ap (λ (x : ℕ). x * c) (zero-mul u) ∙ zero-mul c
+zero_value u c = grind arith
 
 pub sqrt_positive : (x : Float) (a : ℕ) → 0 < a → HasValue x false a (2 ^ 1074) → sqrt_of x ≡ rounded (a * 2 ^ 1074)
 unfolding sqrt_of in_units
@@ -159,11 +159,7 @@ odd_number d s (suc q) k l = refl
 
 units_number : (q k : ℕ) → is_nan (units binary64 false q k) ≡ false
 unfolding units is_nan
-units_number q k = go (ltb (q * 2 ^ k) (2 ^ 2098))
-  where
-    go : (b : Bool) → is_nan (cond b (odd 54 false q k 1074) (inf false)) ≡ false
-    go true = odd_number 54 false q k 1074
-    go false = refl
+units_number q k = grind arith
 
 -- ---- the other patterns
 pub nan_by_division : div binary64 (of_bits binary64 0) (of_bits binary64 0) ≡ nan

@@ -14,9 +14,7 @@ square_odd r = grind arith
 
 -- ---- a power of two as one of four, with a factor 2 left over where its exponent is odd
 pub even_power : (s e : ℕ) → e % 2 ≡ 0 → s * 2 ^ (2 * (e / 2)) ≡ s * 2 ^ e
-even_power s e h =
-    let whole : 2 * (e / 2) ≡ e = omega arith in
-    ap (λ (j : ℕ). s * 2 ^ j) whole
+even_power s e h = grind arith
 
 pub odd_power : (s e : ℕ) → (e % 2 ≡ 0 → ⊥) → 2 * s * 2 ^ (2 * (e / 2)) ≡ s * 2 ^ e
 odd_power s e h =

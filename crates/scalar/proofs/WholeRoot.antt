@@ -37,33 +37,20 @@ root_is_root zero n h = omega arith
 root_is_root (suc d) n h = extend_root n (root d (n / 4)) (root_is_root d (n / 4) (omega (arith, pow-suc 4 d)))
 
 pub square_lt : (a b : ℕ) → a * a < b * b → a < b
-square_lt a b h = lt_of_not-le (λ (g : b ≤ a). not-le_of_lt h (mul-le-mul g g))
+square_lt a b h = grind arith
 
 root_le : (n r s : ℕ) → IsRoot n r → IsRoot n s → r ≤ s
-root_le n r s h k = omega (arith, square_lt r (s + 1) (lt_of_le_of_lt h.0 k.1))
+root_le n r s h k = grind arith
 
 pub root_unique : (n r s : ℕ) → IsRoot n r → IsRoot n s → r ≡ s
-root_unique n r s h k = le_antisymm (root_le n r s h k) (root_le n s r k h)
+root_unique n r s h k = grind arith
 
 -- ---- what `compare` says
 pub compare_lt : (a b : ℕ) → a < b → compare a b ≡ Ordering.lt
-compare_lt a b h = go (compare a b) (nleb→lt a b) (eqb→eq a b)
-  where
-    go : (o : Ordering) → (T (not (is_le o)) → b < a) → (T (compare_is_eq o) → a ≡ b) → o ≡ Ordering.lt
-    go Ordering.lt k e = refl
-    go Ordering.eq k e = absurd (lt_irrefl b (subst (λ (x : ℕ). x < b) (e tt) h))
-    go Ordering.gt k e = absurd (not-le_of_lt h (le_of_lt' (k tt)))
-      where
-        le_of_lt' : b < a → b ≤ a
-        le_of_lt' l = omega arith
+compare_lt a b h = grind arith
 
 pub compare_gt : (a b : ℕ) → b < a → compare a b ≡ Ordering.gt
-compare_gt a b h = go (compare a b) (leb→le a b)
-  where
-    go : (o : Ordering) → (T (is_le o) → a ≤ b) → o ≡ Ordering.gt
-    go Ordering.lt k = absurd (not-le_of_lt h (k tt))
-    go Ordering.eq k = absurd (not-le_of_lt h (k tt))
-    go Ordering.gt k = refl
+compare_gt a b h = grind arith
 
 -- ---- `rounded` at M * 4 ^ k
 dropped : (z k : ℕ) → 104 + 2 * k < z → z ≤ 106 + 2 * k → suc z / 2 - 53 ≡ k
@@ -107,10 +94,10 @@ Digits m r = (2 ^ 52 ≤ r) × (r < 2 ^ 53) × ((k : ℕ) → rounded (m * 2 ^ 5
 
 module _ (m q e : ℕ) (lo : 2 ^ 52 ≤ m) (hi : m ≤ 2 ^ 54 - 2) (is : q * q + e ≡ m * 2 ^ 52) (rest : e ≤ 2 * q) where
   at_least : 2 ^ 52 ≤ q
-  at_least = omega (arith, square_lt (2 ^ 52) (q + 1) (grind arith))
+  at_least = grind arith
 
   at_most : q < 2 ^ 53
-  at_most = square_lt q (2 ^ 53) (omega arith)
+  at_most = grind arith
 
   pub digits_down : e ≤ q → Digits m q
   digits_down h = (at_least, at_most, λ k. rounded_down (m * 2 ^ 52) k (omega arith) (omega arith) q (omega arith) (omega arith))
