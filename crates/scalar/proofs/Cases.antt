@@ -55,7 +55,7 @@ zero_lt (fin false (suc m) e) h = lt→ltb 0 (suc m) (zero-lt-suc m)
 
 pub minus_below : (m : ℕ) (e : ℤ) → lt (fin true (suc m) e) (of_bits binary64 0) ≡ true
 unfolding lt of_bits
-minus_below m e = nothing_above m (up e) (down e) (up_pos e)
+minus_below m e = grind (arith, nothing_above, up_pos)
 
 pub none_above : (x : Float) → lt (of_bits binary64 0) x ≡ false → positive x ≡ false
 unfolding lt of_bits
@@ -119,9 +119,7 @@ positive_bits b l p =
 
 -- ---- above zero, the patterns of the finite values are those below infinity's
 below_infinity : (x : Float) → T (fits binary64 x) → T (positive x) → ltb (to_bits binary64 x) (2047 * 2 ^ 52) ≡ true
-below_infinity x f p =
-    let b = positive_bits (to_bits binary64 x) (to_bits-lt binary64 x f) (subst (λ (v : Float). T (positive v)) (sym (of_bits-to_bits binary64 x f)) p) in
-    lt-ltb (to_bits binary64 x) (2047 * 2 ^ 52) b.1
+below_infinity x f p = grind (arith, positive_bits, to_bits-lt, of_bits-to_bits, lt-ltb)
 
 ordinary_if : (x : Float) → T (fits binary64 x) → lt (of_bits binary64 0) x ≡ true → ltb (to_bits binary64 x) (2047 * 2 ^ 52) ≡ positive x
 unfolding lt of_bits to_bits

@@ -8,10 +8,7 @@ use Rattle.scalar.proofs.Squares.{square_even, square_next, square_sum}
 use Rattle.scalar.proofs.WholeRoot.{square_lt, Digits, digits_down, digits_up}
 
 pred_square : (r : ℕ) → 0 < r → r * r ≡ (r - 1) * (r - 1) + 2 * (r - 1) + 1
-pred_square r h = ap (λ (x : ℕ). x * x) (back r h) ∙ square_next (r - 1)
-  where
-    back : (r : ℕ) → 0 < r → r ≡ r - 1 + 1
-    back r h = omega arith
+pred_square r h = grind (arith, square_next)
 
 -- ---- the nearest whole number to the root of m * 2 ^ 52
 nearest_is : (m r : ℕ) → 2 ^ 52 ≤ m → m ≤ 2 ^ 54 - 2 → m * 2 ^ 52 ≤ r * r + r → r * r < m * 2 ^ 52 + r → Digits m r

@@ -21,11 +21,7 @@ use Rattle.scalar.specs.Scalar.{f0, f1}
 -- ---- a value of the format is its own rounding
 
 pow_le_back : (i j : ℕ) → 2 ^ i ≤ 2 ^ j → i ≤ j
-pow_le_back i j h = go (leb i j) refl
-  where
-    go : (b : Bool) → leb i j ≡ b → i ≤ j
-    go true e = leb-true i j e
-    go false e = let l = pow-lt (leb-false i j e) in absurd (omega arith)
+pow_le_back i j h = grind (arith, leb, leb-true, pow-lt, leb-false)
 
 module _ (f : Format) where
   -- m * 2 ^ e is m * 2 ^ j of the format's smallest values

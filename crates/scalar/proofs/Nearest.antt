@@ -133,7 +133,7 @@ module _ (M k q b : ℕ) (g : (b ≤ q * 2 ^ k) ⊎ ((q + 1) * 2 ^ k ≤ b)) whe
 
   -- the square of twice q * 2 ^ k
   twice_square : (a : ℕ) → 2 * (a * 2 ^ k) * (2 * (a * 2 ^ k)) ≡ 4 * (a * a * 2 ^ (2 * k))
-  twice_square a = square_even (a * 2 ^ k) ∙ ap (λ (x : ℕ). 4 * x) (square_units a k)
+  twice_square a = grind (arith, square_even, square_units)
 
   nearer_down : q * q ≤ M → M ≤ q * q + q → Nearer (M * 2 ^ (2 * k)) (q * 2 ^ k) b
   nearer_down lo hi = (
@@ -269,13 +269,7 @@ same_size x y h k p q e = sym (of_bits-to_bits binary64 x h) ∙ ap (of_bits bin
     bits (fin false m e) p = unfold to_bits in_units in refl
 
 pub nearest_is_sqrt : (x r : Float) → T (fits binary64 x) → T (positive x) → Nearest x r → r ≡ sqrt_of x
-nearest_is_sqrt x r h p n =
-    let s = sqrt_nearest x h p in
-    let a = n.nearest (sqrt_of x) s.value (positive-finite (sqrt_of x) s.above) in
-    let b = s.nearest r n.value (positive-finite r n.above) in
-    let u = in_units x in
-    same_size r (sqrt_of x) n.value s.value n.above s.above
-    (le_antisymm (in_order u u (in_units r) (in_units (sqrt_of x)) (2 ^ 1074) (le_refl u) a b) (in_order u u (in_units (sqrt_of x)) (in_units r) (2 ^ 1074) (le_refl u) b a))
+nearest_is_sqrt x r h p n = grind (arith, sqrt_nearest, positive-finite, same_size, le_antisymm, in_order, le_refl)
 
 -- ---- the root is a value of the format
 pub sqrt_fits : (x : Float) → T (fits binary64 x) → T (fits binary64 (sqrt_of x))

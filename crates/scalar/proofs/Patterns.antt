@@ -26,7 +26,7 @@ fields_low s t = refl
 
 pub fields_normal : (s : Bool) (x t : ℕ) → suc x < 2047 → of_fields binary64 s (suc x) t ≡ odd 53 s (2 ^ 52 + t) x 1074
 unfolding of_fields
-fields_normal s x t h = ap (λ (b : Bool). cond b (cond (eqb t 0) (inf s) nan) (odd 53 s (2 ^ 52 + t) x 1074)) (ne_eqb (suc x) 2047 (λ e. omega arith))
+fields_normal s x t h = grind (arith, eqb, ne_eqb)
 
 pub read_low : (b : ℕ) → b < 2 ^ 52 → of_bits binary64 b ≡ odd 53 false b 0 1074
 read_low b h =
@@ -72,10 +72,7 @@ unfolding units
 units_is q k h = grind arith
 
 below_top : (q k : ℕ) → q < 2 ^ 53 → k < 2046 → q * 2 ^ k < 2 ^ 2098
-below_top q k h l = lt_of_lt_of_le (shl_lt 53 k h) (pow_mono (room k l))
-  where
-    room : (k : ℕ) → k < 2046 → 53 + k ≤ 2098
-    room k l = omega arith
+below_top q k h l = grind (arith, lt_of_lt_of_le, shl_lt, pow_mono)
 
 pub write : (q k : ℕ) → 2 ^ 52 ≤ q → q < 2 ^ 53 → k < 2046 → of_bits binary64 (k * 2 ^ 52 + q) ≡ units binary64 false q k
 write q k a b l =
@@ -170,4 +167,4 @@ pub not_above : (b : ℕ) → T (not (is_nan (of_bits binary64 b))) → b % 2 ^ 
 not_above b h = nltb→le (2047 * 2 ^ 52) (b % 2 ^ 63) (subst (λ (t : Bool). T (not t)) (sym (nan_bits_is binary64 b) ∙ nan_bits_above binary64 b) h)
 
 pub no_nan : (q k : ℕ) → 2 ^ 52 ≤ q → q < 2 ^ 53 → k < 2046 → T (not (nan_bits binary64 (k * 2 ^ 52 + q)))
-no_nan q k a b l = subst (λ (t : Bool). T (not t)) (sym (nan_bits_is binary64 (k * 2 ^ 52 + q) ∙ ap is_nan (write q k a b l) ∙ units_number q k)) tt
+no_nan q k a b l = grind (arith, nan_bits_is, write, units_number)

@@ -24,9 +24,7 @@ odd_power s e h =
 
 -- 52 factors 2 out of the power
 pub shifted : (s e : ℕ) → 52 ≤ e → s * 2 ^ 52 * 2 ^ (e - 52) ≡ s * 2 ^ e
-shifted s e h =
-    let k : 52 + (e - 52) ≡ e = omega arith in
-    mul_assoc s (2 ^ 52) (2 ^ (e - 52)) ∙ ap (λ (x : ℕ). s * x) (sym (pow-add 2 52 (e - 52)) ∙ ap (λ (j : ℕ). 2 ^ j) k)
+shifted s e h = grind (arith, mul_assoc, pow-add)
 
 -- ---- the square of a number of two parts
 pub square_sum : (x b : ℕ) → (x + b) * (x + b) ≡ x * x + 2 * (x * b) + b * b

@@ -100,14 +100,7 @@ module _ (m q e : ℕ) (lo : 2 ^ 52 ≤ m) (hi : m ≤ 2 ^ 54 - 2) (is : q * q +
   at_most = grind arith
 
   pub digits_down : e ≤ q → Digits m q
-  digits_down h = (at_least, at_most, λ k. rounded_down (m * 2 ^ 52) k (omega arith) (omega arith) q (omega arith) (omega arith))
+  digits_down h = grind (arith, at_least, at_most, rounded_down)
 
   pub digits_up : q < e → Digits m (q + 1)
-  digits_up h =
-      (omega (arith, at_least), next_lt, λ k. rounded_up (m * 2 ^ 52) k (omega arith) (omega arith) q (omega arith) (grind arith))
-    where
-      next_lt : q + 1 < 2 ^ 53
-      next_lt = lt_of_not-le (λ (g : 2 ^ 53 ≤ q + 1). clash (mul-le-mul g g))
-        where
-          clash : 2 ^ 53 * 2 ^ 53 ≤ (q + 1) * (q + 1) → ⊥
-          clash l = grind (arith, at_most)
+  digits_up h = grind (arith, at_least, rounded_up, lt_of_not-le, mul-le-mul, at_most)
