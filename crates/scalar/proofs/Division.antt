@@ -2,10 +2,10 @@
 use mathlib.Core.Path.{◌≡◌, ap, ◌∙◌, subst}
 use mathlib.Core.Logic.{inl, inr}
 use Prim.Native.Nat.{ℕ, ◌+◌, ◌-◌, ◌*◌, ◌/◌, ◌%◌, ◌^◌, ◌≤◌, ◌<◌}
-use native.Mathlib.Nat.{add_comm, mul_comm, mul-add, add-mul, mul-le-mul, mul-le-mul_right, mul-mul-mul_comm, mul_right_comm, le_of_mul-le-mul_right, lt_of_mul-lt-mul_right, lt_of_not-le, eq-zero-or-pos, div-mul-le_self, div-lt_iff_lt-mul, div-add-mod', mod-lt}
+use native.Mathlib.Nat.{mul-le-mul, mul-mul-mul_comm, mul_right_comm, eq-zero-or-pos, div-lt_iff_lt-mul, div-add-mod', mod-lt}
 use native.Mathlib.Omega.{arith}
-use Rattle.scalar.proofs.Squares.{square_even, square_next, square_sum}
-use Rattle.scalar.proofs.WholeRoot.{square_lt, Digits, digits_down, digits_up}
+use Rattle.scalar.proofs.Squares.{square_next}
+use Rattle.scalar.proofs.WholeRoot.{Digits, digits_down, digits_up}
 
 pred_square : (r : ℕ) → 0 < r → r * r ≡ (r - 1) * (r - 1) + 2 * (r - 1) + 1
 pred_square r h = grind (arith, square_next)

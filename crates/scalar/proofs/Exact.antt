@@ -1,10 +1,10 @@
 -- Products and quotients that come out exactly: of a zero, of one, and of a value by itself. Assumes nothing.
 use Prim.Native.Nat.{ℕ, zero, suc, ◌+◌, ◌-◌, ◌*◌, ◌%◌, ◌^◌, ◌≤◌, ◌<◌}
 use mathlib.Core.Path.{◌≡◌, refl, sym, ap, ◌∙◌, subst}
-use mathlib.Core.Bool.{Bool, true, false, ◌&&◌}
+use mathlib.Core.Bool.{true, false, ◌&&◌}
 use native.Mathlib.Nat.{mul_comm, mul_assoc, mul-one, one-mul, zero-mul, mul-zero, mul-pos, mul-lt-mul_of_pos_right, sub-add_cancel, le_refl, zero-lt-suc}
 use native.Mathlib.Omega.{arith}
-use borrow.Author.Tests.{leb-true, leb-false, ne_eqb}
+use borrow.Author.Tests.{leb-true, leb-false}
 use lib.IntN.{ℤ, pos, negsuc}
 use lib.Dec.{T, eqb, ltb, leb, leb→le, ltb→lt}
 use lib.Pow.{pow-add, pow_pos, pow-lt}

@@ -3,9 +3,9 @@ use mathlib.Core.Path.{◌≡◌, refl, sym, ap, ◌∙◌, subst}
 use mathlib.Core.Logic.{◌⊎◌, inl, inr}
 use mathlib.Core.Bool.{Bool, true, false, cond}
 use Prim.Native.Nat.{ℕ, zero, suc, ◌+◌, ◌-◌, ◌*◌, ◌/◌, ◌%◌, ◌^◌, ◌≤◌, ◌<◌}
-use native.Mathlib.Nat.{le_refl, le_antisymm, zero-lt-suc, add_comm, le_trans, le_of_eq, lt_of_lt_of_le, lt_of_le_of_lt, lt_of_not-le, not-le_of_lt, mul-le-mul, mul-le-mul_right, mul-lt-mul_of_pos_right, mul_assoc, mul-mul-mul_comm, add-mul, mul-pos, mul-div_cancel, eq-zero-or-pos, eq-or-lt_of_le, le_of_suc-le-suc}
+use native.Mathlib.Nat.{le_refl, le_antisymm, zero-lt-suc, le_trans, le_of_eq, lt_of_lt_of_le, lt_of_le_of_lt, lt_of_not-le, not-le_of_lt, mul-le-mul, mul-le-mul_right, mul-lt-mul_of_pos_right, mul_assoc, mul-mul-mul_comm, mul-pos, mul-div_cancel, eq-or-lt_of_le, le_of_suc-le-suc}
 use native.Mathlib.Omega.{arith}
-use lib.Dec.{T, leb, eqb, lt→ltb}
+use lib.Dec.{T, leb, lt→ltb}
 use lib.Pow.{pow-add, pow_pos, pow_mono, shl_lt}
 use lib.Ieee.{Float, nan, inf, fin, binary64, down, size, units, fits, of_fields, of_bits, to_bits}
 use lib.Ieee.Digits.{size-lt, size-le, size_reaches}
@@ -15,7 +15,7 @@ use lib.Ieee.Exact.{HasValue, odd_sign, units_val}
 use lib.Ieee.Scale.{finite}
 use lib.Ieee.Positive.{positive, positive-finite, value_pos, first_pos, positive_of_value}
 use Rattle.scalar.specs.Sqrt.{root, rounded, sqrt_of, in_units, Nearer, Nearest}
-use Rattle.scalar.proofs.Squares.{square_even, square_next, square_odd}
+use Rattle.scalar.proofs.Squares.{square_even}
 use Rattle.scalar.proofs.WholeRoot.{IsRoot, square_lt, root_is_root, rounded_down, rounded_up}
 use Rattle.scalar.proofs.Patterns.{units_is, of_bits_is, fields_low, fields_normal, sqrt_positive}
 
@@ -79,7 +79,7 @@ gap : (q k p j : ℕ) → 2 ^ 52 ≤ q → p < 2 ^ 53 → (p * 2 ^ j ≤ q * 2 ^
 gap q k p j h l = go (dec k j)
   where
     dec : (a b : ℕ) → (a ≤ b) ⊎ (b < a)
-    dec a b = elim (eq-zero-or-pos (a - b)) [ inl z ↦ inl (omega arith) | inr z ↦ inr (omega arith) ]
+    dec a b = grind arith
 
     join : k ≤ j → j - k + k ≡ j
     join g = omega arith

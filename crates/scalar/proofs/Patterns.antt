@@ -3,16 +3,16 @@ use mathlib.Core.Path.{◌≡◌, refl, sym, ap, ◌∙◌, subst}
 use mathlib.Core.Logic.{◌⊎◌, inl, inr}
 use mathlib.Core.Bool.{Bool, true, false, not, cond, true≢false, false≢true}
 use Prim.Native.Nat.{ℕ, zero, suc, ◌+◌, ◌*◌, ◌/◌, ◌%◌, ◌^◌, ◌≤◌, ◌<◌}
-use native.Mathlib.Nat.{lt_of_lt_of_le, lt_irrefl, mul-div_cancel, mul-pos, zero-mul, zero-lt-suc, mul-one, mul_assoc, eq-or-lt_of_le, le_of_suc-le-suc, pow-succ'}
+use native.Mathlib.Nat.{lt_of_lt_of_le, mul-div_cancel, mul-pos, zero-lt-suc, mul-one, mul_assoc, eq-or-lt_of_le, le_of_suc-le-suc, pow-succ'}
 use native.Mathlib.Omega.{arith}
-use lib.Dec.{T, leb, ltb, eqb, nltb→le}
+use lib.Dec.{T, leb, eqb, nltb→le}
 use lib.Pow.{pow-add, pow_pos, pow_mono, shl_lt}
 use lib.Count.{count_trailing_zeros, under}
 use lib.Ieee.{Float, nan, inf, fin, binary64, up, down, minus, odd, units, is_nan, of_fields, of_bits, nan_bits, div}
 use lib.Ieee.Bits.{nan_bits_is, nan_bits_above}
 use lib.Ieee.Fits.{down_pos}
 use lib.Ieee.Exact.{HasValue, odd_sign}
-use borrow.Author.Tests.{lt-leb, le-leb, ne_eqb, lt-ltb}
+use borrow.Author.Tests.{lt-leb, le-leb, ne_eqb}
 use Rattle.scalar.specs.Sqrt.{in_units, rounded, sqrt_of}
 
 -- ---- how a pattern is read
@@ -159,6 +159,10 @@ unfolding units is_nan
 units_number q k = grind arith
 
 -- ---- the other patterns
+pub nan_constant : of_bits binary64 0x7ff8_0000_0000_0000 ≡ nan
+unfolding of_bits
+nan_constant = refl
+
 pub nan_by_division : div binary64 (of_bits binary64 0) (of_bits binary64 0) ≡ nan
 unfolding div of_bits
 nan_by_division = refl

@@ -1,6 +1,6 @@
 -- Squares of whole numbers. Assumes nothing.
-use Rattle.std.proofs.Common.{◌≡◌, ap, sym, ◌∙◌, ℕ, suc, ◌+◌, ◌-◌, ◌*◌, ◌/◌, ◌%◌, ◌^◌, ◌<◌, ◌≤◌, arith}
-use native.Mathlib.Nat.{mul_assoc, mul_comm, mul_left_comm, mul-add, add-mul, pow-succ'}
+use Rattle.std.proofs.Common.{◌≡◌, ap, sym, ◌∙◌, ℕ, suc, ◌+◌, ◌-◌, ◌*◌, ◌/◌, ◌%◌, ◌^◌, ◌≤◌, arith}
+use native.Mathlib.Nat.{mul_assoc, pow-succ'}
 use lib.Pow.{pow-add}
 
 pub square_even : (r : ℕ) → 2 * r * (2 * r) ≡ 4 * (r * r)

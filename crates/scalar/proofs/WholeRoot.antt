@@ -1,16 +1,15 @@
 -- What `root` and `rounded` give: the whole root by its two squares, and the rounded root of M * 4 ^ k for an M of 105 or 106 digits. Assumes nothing.
-use mathlib.Core.Path.{◌≡◌, refl, sym, ap, ◌∙◌, subst}
+use mathlib.Core.Path.{◌≡◌, sym, ap, ◌∙◌}
 use mathlib.Core.Bool.{Bool, true, false, not, cond}
 use Prim.Native.Nat.{ℕ, zero, suc, ◌+◌, ◌-◌, ◌*◌, ◌/◌, ◌^◌, ◌≤◌, ◌<◌, compare, Ordering}
-use native.Mathlib.Nat.{le_antisymm, lt_of_lt_of_le, lt_of_le_of_lt, lt_of_not-le, not-le_of_lt, lt_irrefl, le_trans, le_of_eq, mul-le-mul, mul-le-mul_right, mul-lt-mul_of_pos_right, mul-div_cancel, mul_assoc, pow-suc}
+use native.Mathlib.Nat.{lt_of_lt_of_le, lt_of_le_of_lt, lt_of_not-le, lt_irrefl, le_trans, le_of_eq, mul-le-mul, mul-le-mul_right, mul-lt-mul_of_pos_right, mul-div_cancel, mul_assoc, pow-suc}
 use native.Mathlib.Numerals.{add-one}
 use native.Mathlib.Omega.{arith}
-use lib.Dec.{T, is_le, compare_is_eq, leb, leb→le, nleb→lt, eqb→eq}
+use lib.Dec.{T, leb, leb→le, nleb→lt}
 use lib.Pow.{pow-add, pow_pos, pow_mono, shl_lt}
 use lib.Ieee.{Float, binary64, size, nearest, units}
 use lib.Ieee.Digits.{size-lt, size-le}
 use Rattle.scalar.specs.Sqrt.{extend, root, rounded}
-use Rattle.scalar.proofs.Squares.{square_even, square_next, square_odd}
 
 -- ---- the whole root
 abbrev pub IsRoot : ℕ → ℕ → Type 0

@@ -7,7 +7,7 @@
 // is searched for takes its place.
 #![tactic(auto)]
 
-ghost use Rattle.std.specs.Prelude.{◌≡◌, ℕ, ◌+◌, ◌*◌, ◌-◌, ◌/◌, ◌%◌, ◌^◌, ◌<◌, ◌≤◌, false, T, IfSome, MatchOption};
+ghost use Rattle.std.specs.Prelude.{◌≡◌, ℕ, ◌+◌, ◌*◌, ◌-◌, ◌/◌, ◌%◌, ◌^◌, ◌<◌, ◌≤◌, false, IfSome, MatchOption};
 ghost use Rattle.std.specs.Float.Ieee.Positive.{positive};
 ghost use Rattle.std.specs.Float.{binary64};
 ghost use Rattle.std.specs.Float.Ieee.{of_bits, units};
@@ -181,6 +181,7 @@ impl Radicand {
         f64::from_bits(self.exponent * 0x10_0000_0000_0000 + self.above().digits())
     }
 
+    // A number close above the root of significand * 2^8.
     fn above(self) -> Above
         ensures { result.radicand ≡ self }
     {
@@ -204,7 +205,7 @@ impl Radicand {
         }
     }
 
-    // The whole number next above the root.
+    // The whole number next above the root, which takes longer.
     #[cold]
     fn searched(self) -> Above
         ensures { result.radicand ≡ self }
@@ -244,15 +245,16 @@ impl Above {
 }
 
 // The root of any x but a positive finite one: a NaN below zero, and x itself at a zero, +infinity and a NaN.
-#[tactic(auto, using(crate::proofs::Cases::special_below, crate::proofs::Cases::special_itself, crate::proofs::Patterns::nan_by_division))]
+#[tactic(auto, using(crate::proofs::Cases::special_below, crate::proofs::Cases::special_itself, crate::proofs::Patterns::nan_constant))]
 fn special(x: f64) -> f64
     requires { positive x ≡ false }
     ensures { result ≡ sqrt_of x }
 {
-    if x < 0.0 { 0.0 / 0.0 } else { x }
+    if x < 0.0 { f64::NAN } else { x }
 }
 
-// The square root of x, rounded to the nearest value, as IEEE 754 has it.
+// The square root of x, rounded to the nearest value, as IEEE 754 has it. It is not std's `f64::sqrt`, which is the
+// processor's: the root is to come from bits and whole numbers, so that each step is proved.
 pub fn sqrt(x: f64) -> f64
     ensures { result ≡ sqrt_of x }
 {
