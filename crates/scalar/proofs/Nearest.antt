@@ -3,7 +3,7 @@ use mathlib.Core.Path.{◌≡◌, refl, sym, ap, ◌∙◌, subst}
 use mathlib.Core.Logic.{◌⊎◌, inl, inr}
 use mathlib.Core.Bool.{Bool, true, false, cond}
 use Prim.Native.Nat.{ℕ, zero, suc, ◌+◌, ◌-◌, ◌*◌, ◌/◌, ◌%◌, ◌^◌, ◌≤◌, ◌<◌}
-use native.Mathlib.Nat.{le_refl, le_antisymm, zero-lt-suc, le_trans, le_of_eq, lt_of_lt_of_le, lt_of_le_of_lt, lt_of_not-le, not-le_of_lt, mul-le-mul, mul-le-mul_right, mul-lt-mul_of_pos_right, mul_assoc, mul-mul-mul_comm, mul-pos, mul-div_cancel, eq-or-lt_of_le, le_of_suc-le-suc}
+use native.Mathlib.Nat.{le_of_lt, sub-add_cancel, le_refl, le_antisymm, zero-lt-suc, le_trans, le_of_eq, lt_of_lt_of_le, lt_of_le_of_lt, lt_of_not-le, not-le_of_lt, mul-le-mul, mul-le-mul_right, mul-lt-mul_of_pos_right, mul_assoc, mul-mul-mul_comm, mul-pos, mul-div_cancel, eq-or-lt_of_le, le_of_suc-le-suc}
 use native.Mathlib.Omega.{arith}
 use lib.Dec.{T, leb, lt→ltb}
 use lib.Pow.{pow-add, pow_pos, pow_mono, shl_lt}
@@ -14,6 +14,7 @@ use lib.Ieee.Bits.{of_bits-to_bits}
 use lib.Ieee.Exact.{HasValue, odd_sign, units_val}
 use lib.Ieee.Scale.{finite}
 use lib.Ieee.Positive.{positive, positive-finite, value_pos, first_pos, positive_of_value}
+use Rattle.std.proofs.lemmas.Bool.{cases_lt}
 use Rattle.scalar.specs.Sqrt.{root, rounded, sqrt_of, in_units, Nearer, Nearest}
 use Rattle.scalar.proofs.Squares.{square_even}
 use Rattle.scalar.proofs.WholeRoot.{IsRoot, square_lt, root_is_root, rounded_down, rounded_up}
@@ -76,39 +77,27 @@ split q e p h l =
 
 -- ---- between q * 2 ^ k and the next multiple of 2 ^ k lies no value of the format, for a q of 53 digits at least
 gap : (q k p j : ℕ) → 2 ^ 52 ≤ q → p < 2 ^ 53 → (p * 2 ^ j ≤ q * 2 ^ k) ⊎ ((q + 1) * 2 ^ k ≤ p * 2 ^ j)
-gap q k p j h l = go (dec k j)
-  where
-    dec : (a b : ℕ) → (a ≤ b) ⊎ (b < a)
-    dec a b = grind arith
-
-    join : k ≤ j → j - k + k ≡ j
-    join g = omega arith
-
-    next : (a b : ℕ) → b < a → b + 1 ≤ a
-    next a b g = omega arith
-
-    go : (k ≤ j) ⊎ (j < k) → (p * 2 ^ j ≤ q * 2 ^ k) ⊎ ((q + 1) * 2 ^ k ≤ p * 2 ^ j)
-    go (inl g) =
-        let b : p * 2 ^ j ≡ p * 2 ^ (j - k) * 2 ^ k = ap (λ (x : ℕ). p * 2 ^ x) (sym (join g)) ∙ ap (λ (x : ℕ). p * x) (pow-add 2 (j - k) k) ∙ sym (mul_assoc p (2 ^ (j - k)) (2 ^ k)) in
-        elim (dec (p * 2 ^ (j - k)) q) [
-          | inl d ↦ inl (le_trans (le_of_eq b) (mul-le-mul_right (2 ^ k) d))
-          | inr d ↦ inr (le_trans (mul-le-mul_right (2 ^ k) (next (p * 2 ^ (j - k)) q d)) (le_of_eq (sym b)))
-        ]
-    go (inr g) =
-        inl (le_trans (le_of_lt' (shl_lt 53 j l)) (le_trans (pow_mono (room j k g)) (le_trans (le_of_eq (pow-add 2 52 k)) (mul-le-mul_right (2 ^ k) h))))
-      where
-        room : (j k : ℕ) → j < k → 53 + j ≤ 52 + k
-        room j k g = omega arith
-
-        le_of_lt' : {a b : ℕ} → a < b → a ≤ b
-        le_of_lt' d = omega arith
+gap q k p j h l = elim (cases_lt j k) [
+  | inl g ↦
+      let room : 53 + j ≤ 52 + k = omega arith in
+      let top = le_trans (pow_mono room) (le_trans (le_of_eq (pow-add 2 52 k)) (mul-le-mul_right (2 ^ k) h)) in
+      inl (le_trans (le_of_lt (shl_lt 53 j l)) top)
+  | inr g ↦
+      let d = p * 2 ^ (j - k) in
+      let b : p * 2 ^ j ≡ d * 2 ^ k = ap (λ (x : ℕ). p * 2 ^ x) (sym (sub-add_cancel g)) ∙ ap (λ (x : ℕ). p * x) (pow-add 2 (j - k) k) ∙ sym (mul_assoc p (2 ^ (j - k)) (2 ^ k)) in
+      elim (cases_lt q d) [
+        | inl n ↦
+            let next : q + 1 ≤ d = omega arith in
+            inr (le_trans (mul-le-mul_right (2 ^ k) next) (le_of_eq (sym b)))
+        | inr n ↦ inl (le_trans (le_of_eq b) (mul-le-mul_right (2 ^ k) n))
+      ]
+]
 
 -- ---- squares in units of 2 ^ k
 square_units : (a k : ℕ) → a * 2 ^ k * (a * 2 ^ k) ≡ a * a * 2 ^ (2 * k)
-square_units a k = mul-mul-mul_comm a (2 ^ k) a (2 ^ k) ∙ ap (λ (x : ℕ). a * a * x) (sym (pow-add 2 k k) ∙ ap (λ (x : ℕ). 2 ^ x) (twice k))
-  where
-    twice : (k : ℕ) → k + k ≡ 2 * k
-    twice k = omega arith
+square_units a k =
+    let twice : k + k ≡ 2 * k = omega arith in
+    mul-mul-mul_comm a (2 ^ k) a (2 ^ k) ∙ ap (λ (x : ℕ). a * a * x) (sym (pow-add 2 k k) ∙ ap (λ (x : ℕ). 2 ^ x) twice)
 
 square_mono : (a b : ℕ) → a < b → a * a < b * b
 square_mono a b h = grind arith
@@ -157,13 +146,7 @@ module _ (M k q b : ℕ) (g : (b ≤ q * 2 ^ k) ⊎ ((q + 1) * 2 ^ k ≤ b)) whe
 
 -- ---- a positive number's root
 within : (q k : ℕ) → q ≤ 2 ^ 53 → 2 * k < 3120 → q * 2 ^ k < 2 ^ 2098
-within q k h l = lt_of_lt_of_le (shl_lt 54 k (room q h)) (pow_mono (few k l))
-  where
-    room : (q : ℕ) → q ≤ 2 ^ 53 → q < 2 ^ 54
-    room q h = omega arith
-
-    few : (k : ℕ) → 2 * k < 3120 → 54 + k ≤ 2098
-    few k l = omega arith
+within q k h l = let few : 54 + k ≤ 2098 = omega arith in lt_of_lt_of_le (shl_lt 54 k (omega arith)) (pow_mono few)
 
 -- the rounded root of n squared units is v, r units: a value of the format, and nearer than each other
 abbrev Rooted : ℕ → Float → Type 0
@@ -175,12 +158,9 @@ rooted_units n q k p h l near =
       q * 2 ^ k,
       units_val binary64 false q k w,
       mul-pos p (pow_pos k),
-      subst (λ (v : Float). T (fits binary64 v)) (sym (units_is q k w)) (odd-fits binary64 54 false q k (room q h) h w),
+      subst (λ (v : Float). T (fits binary64 v)) (sym (units_is q k w)) (odd-fits binary64 54 false q k (omega arith) h w),
       near,
     )
-  where
-    room : (q : ℕ) → q ≤ 2 ^ 53 → q < 2 ^ 54
-    room q h = omega arith
 
 rooted_split : (M k : ℕ) → 2 ^ 104 ≤ M → M < 2 ^ 106 → 2 * k < 3120 → Rooted (M * 2 ^ (2 * k)) (rounded (M * 2 ^ (2 * k)))
 rooted_split M k lo hi l = go (M - (q * q + q)) refl
@@ -230,11 +210,8 @@ rooted x h p =
       q * 2 ^ j,
       v,
       subst (λ (w : Float). Rooted (q * 2 ^ j * 2 ^ 1074) w) (sym (sqrt_positive x (q * 2 ^ j) a_pos v))
-          (subst (λ (n : ℕ). Rooted n (rounded n)) (sym same) (rooted_split s.0 s.1 s.3 s.4 (small j s.1 s.5 g.5))),
+          (subst (λ (n : ℕ). Rooted n (rounded n)) (sym same) (rooted_split s.0 s.1 s.3 s.4 (omega (arith, s.5, g.5)))),
     )
-  where
-    small : (j k : ℕ) → 2 * k ≤ j + 1074 → j < 2046 → 2 * k < 3120
-    small j k h l = omega arith
 
 -- ---- the laws
 
