@@ -18,17 +18,9 @@ IsRoot n r = (r * r ≤ n) × (n < (r + 1) * (r + 1))
 extend_root : (n r : ℕ) → IsRoot (n / 4) r → IsRoot n (extend n (2 * r))
 extend_root n r h = go (leb (suc (2 * r) * suc (2 * r)) n) (leb→le (suc (2 * r) * suc (2 * r)) n) (nleb→lt (suc (2 * r) * suc (2 * r)) n)
   where
-    suc_square : suc (2 * r) * suc (2 * r) ≡ (2 * r + 1) * (2 * r + 1)
-    suc_square = ap (λ (x : ℕ). x * x) (sym (add-one (2 * r)))
-
     go : (b : Bool) → (T b → suc (2 * r) * suc (2 * r) ≤ n) → (T (not b) → n < suc (2 * r) * suc (2 * r)) → IsRoot n (cond b (suc (2 * r)) (2 * r))
-    go true y z =
-        let a : (suc (2 * r) + 1) * (suc (2 * r) + 1) ≡ 4 * ((r + 1) * (r + 1)) = ap (λ (x : ℕ). x * x) (twice r) ∙ grind arith in
-        (y tt, omega (arith, h.1))
-      where
-        twice : (r : ℕ) → suc (2 * r) + 1 ≡ 2 * (r + 1)
-        twice r = omega arith
-    go false y z = (grind (arith, h.0), omega (arith, suc_square, z tt))
+    go true y z = (y tt, grind (arith, h.1))
+    go false y z = (grind (arith, h.0), grind (arith, z tt))
 
 pub root_is_root : (d n : ℕ) → n < 4 ^ d → IsRoot n (root d n)
 unfolding root
@@ -37,9 +29,6 @@ root_is_root (suc d) n h = extend_root n (root d (n / 4)) (root_is_root d (n / 4
 
 pub square_lt : (a b : ℕ) → a * a < b * b → a < b
 square_lt a b h = grind arith
-
-root_le : (n r s : ℕ) → IsRoot n r → IsRoot n s → r ≤ s
-root_le n r s h k = grind arith
 
 pub root_unique : (n r s : ℕ) → IsRoot n r → IsRoot n s → r ≡ s
 root_unique n r s h k = grind arith
