@@ -27,14 +27,14 @@ pub fn abs(x: f64) -> f64
     x.abs()
 }
 
-// A positive finite number: the normal number that has these bits, divided by 4^fours.
+// A positive finite number: the normal number that has these bits, divided by 4^fours. Contracts see it as the radicand
+// of its root.
 #[derive(Drop)]
 struct Normal {
     bits: u64,
     fours: u64,
 }
 
-// Its contracts see the radicand of its root.
 impl Model for Normal {
     ghost Value = { ℕ };
 
@@ -44,7 +44,7 @@ impl Model for Normal {
 }
 
 impl Normal {
-    // No other x is one.
+    // A positive finite x is one, and no other.
     #[tactic(auto, using(crate::proofs::Cases::finite_above, crate::proofs::Cases::infinite_above, crate::proofs::Cases::none_above))]
     fn of(x: f64) -> Option<Normal>
         ensures { MatchOption result (positive x ≡ false) (λ n. sqrt_of x ≡ rounded n) }
@@ -58,7 +58,7 @@ impl Normal {
         None
     }
 
-    // A subnormal number is multiplied by 4 until it is normal.
+    // The number with these bits. A subnormal one is multiplied by 4 until it is normal.
     fn scaled(bits: u64) -> Normal
         requires { (0 < bits) × (bits < 2047 * 2 ^ 52) }
         ensures { sqrt_of (of_bits binary64 bits) ≡ rounded result }
@@ -181,7 +181,7 @@ impl Radicand {
         f64::from_bits(self.exponent * 0x10_0000_0000_0000 + self.above().digits())
     }
 
-    // A number close above the root of significand * 2^8.
+    // The guess, or what is searched for where it is not near enough.
     fn above(self) -> Above
         ensures { result.radicand ≡ self }
     {
@@ -220,7 +220,7 @@ impl Radicand {
     }
 }
 
-// A whole number close above the root of significand * 2^8, and what its square has too much.
+// A whole number that is the root of significand * 2^8 or close above it, and what its square has too much.
 #[derive(Clone, Copy)]
 struct Above {
     radicand: Radicand,
