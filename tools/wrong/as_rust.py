@@ -58,6 +58,8 @@ def without_contracts(text):
 def as_rust(text, crates):
     text = without_contracts(text)
     text = re.sub(r"(#\[derive\([^)]*), Drop\b", r"\1", text)
+    # a model has ghost lines alone
+    text = re.sub(r"^use std::marker::Model;\n|^impl\b[^{]*\bModel for [^{]*\{\s*\}\n", "", text, flags=re.M)
     text = text.replace("std::num::nearest_u64_to_f64(", "(|n: u64| n as f64)(")
     text = re.sub(r"\bstd::io\b", "crate::io", text).replace("HostRuntime", "crate::HostRuntime")
     return re.sub(rf"(?<![\w:.])({'|'.join(crates)})::", r"crate::\1::", text)

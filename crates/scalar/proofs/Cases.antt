@@ -1,69 +1,60 @@
 -- The values other than the positive finite ones, and which patterns those have. Assumes nothing.
-use mathlib.Core.Path.{◌≡◌, refl, sym, ◌∙◌, subst}
+use mathlib.Core.Path.{◌≡◌, refl, sym, ap, ◌∙◌, subst}
 use mathlib.Core.Bool.{true, false, not, true≢false, false≢true}
-use Prim.Native.Nat.{ℕ, zero, suc, ◌+◌, ◌*◌, ◌^◌, ◌<◌}
-use native.Mathlib.Nat.{mul-pos, zero-lt-suc, zero-mul}
+use Prim.Native.Nat.{ℕ, zero, suc, ◌*◌, ◌^◌, ◌<◌, ◌≤◌}
+use native.Mathlib.Nat.{zero-lt-suc}
 use native.Mathlib.Omega.{arith}
 use lib.IntN.{ℤ}
 use lib.Dec.{T, ltb, lt→ltb}
-use lib.Ieee.{Float, nan, inf, fin, binary64, up, down, lt, is_nan, fits, of_bits, to_bits}
+use lib.Ieee.{Float, nan, inf, fin, binary64, lt, is_nan, fits, of_bits, to_bits}
 use lib.Ieee.Fits.{up_pos}
 use lib.Ieee.Bits.{of_bits-fits, of_bits-to_bits, to_bits-lt}
 use lib.Ieee.Exact.{HasValue}
 use lib.Ieee.Positive.{positive, above}
-use borrow.Author.Tests.{lt-ltb, ltb-true}
+use borrow.Author.Tests.{lt-ltb, le-ltb}
+use Rattle.std.specs.Float.{float_with_sign}
+use Rattle.scalar.specs.Scalar.{abs_of}
 use Rattle.scalar.specs.Sqrt.{sqrt_of}
 use Rattle.scalar.proofs.Patterns.{not_above, sqrt_below}
 use Rattle.scalar.proofs.Nearest.{rooted}
 
+-- ---- the absolute value as std has it
+pub sign_cleared : (x : Float) → float_with_sign false x ≡ abs_of x
+unfolding float_with_sign abs_of
+sign_cleared nan = refl
+sign_cleared (inf s) = refl
+sign_cleared (fin s m e) = refl
+
 -- ---- what the comparisons with zero say
-size_pos : (m u : ℕ) → 0 < u → 0 < suc m * u * 1
-size_pos m u h = mul-pos (mul-pos (zero-lt-suc m) h) (zero-lt-suc 0)
-
-above_nothing : (m u z : ℕ) → 0 < u → ltb (0 * z) (suc m * u * 1) ≡ true
-above_nothing m u z h = lt-ltb (0 * z) (suc m * u * 1) (subst (λ (x : ℕ). x < suc m * u * 1) (sym (zero-mul z)) (size_pos m u h))
-
-nothing_above : (m u z : ℕ) → 0 < u → ltb 0 (suc m * u * 1 + 0 * z) ≡ true
-nothing_above m u z h = lt-ltb 0 (suc m * u * 1 + 0 * z) (omega (arith, size_pos m u h))
-
-not_below_zero : (a z : ℕ) → ltb a (0 * z) ≡ true → ⊥
-not_below_zero a z h = omega (arith, ltb-true a (0 * z) h)
-
-zero_not_above : (u z : ℕ) → ltb (0 * z) (0 * u * 1) ≡ true → ⊥
-zero_not_above u z h = omega (arith, ltb-true (0 * z) (0 * u * 1) h)
-
-zero_not_below : (u z : ℕ) → ltb 0 (0 * u * 1 + 0 * z) ≡ true → ⊥
-zero_not_below u z h = omega (arith, ltb-true 0 (0 * u * 1 + 0 * z) h)
-
 -- to be above zero
 pub zero_lt : (x : Float) → lt (of_bits binary64 0) x ≡ true → T (above x)
 unfolding lt of_bits
 zero_lt nan h = absurd (false≢true h)
 zero_lt (inf s) h = subst T (sym h) tt
 zero_lt (fin true m e) h = absurd (false≢true h)
-zero_lt (fin false zero e) h = absurd (zero_not_above (up e) (down e) h)
-zero_lt (fin false (suc m) e) h = lt→ltb 0 (suc m) (zero-lt-suc m)
+zero_lt (fin false zero e) h = absurd (grind (arith, up_pos))
+zero_lt (fin false (suc m) e) h = grind (arith, up_pos)
 
 pub minus_below : (m : ℕ) (e : ℤ) → lt (fin true (suc m) e) (of_bits binary64 0) ≡ true
 unfolding lt of_bits
-minus_below m e = nothing_above m (up e) (down e) (up_pos e)
+minus_below m e = grind (arith, up_pos)
 
-pub ordinary_not : (x : Float) → lt (of_bits binary64 0) x ≡ false → false ≡ positive x
+pub none_above : (x : Float) → lt (of_bits binary64 0) x ≡ false → positive x ≡ false
 unfolding lt of_bits
-ordinary_not nan h = refl
-ordinary_not (inf s) h = refl
-ordinary_not (fin true m e) h = refl
-ordinary_not (fin false zero e) h = refl
-ordinary_not (fin false (suc m) e) h = absurd (true≢false (sym (above_nothing m (up e) (down e) (up_pos e)) ∙ h))
+none_above nan h = refl
+none_above (inf s) h = refl
+none_above (fin true m e) h = refl
+none_above (fin false zero e) h = refl
+none_above (fin false (suc m) e) h = absurd (grind (arith, up_pos))
 
 pub special_below : (x : Float) → lt x (of_bits binary64 0) ≡ true → sqrt_of x ≡ nan
 unfolding lt of_bits sqrt_of
 special_below nan h = refl
 special_below (inf true) h = refl
 special_below (inf false) h = absurd (false≢true h)
-special_below (fin true zero e) h = absurd (zero_not_below (up e) (down e) h)
+special_below (fin true zero e) h = absurd (grind (arith, up_pos))
 special_below (fin true (suc m) e) h = refl
-special_below (fin false m e) h = absurd (not_below_zero (m * up e * 1) (down e) h)
+special_below (fin false m e) h = absurd (grind (arith, up_pos))
 
 pub special_itself : (x : Float) → positive x ≡ false → lt x (of_bits binary64 0) ≡ false → x ≡ sqrt_of x
 unfolding lt of_bits sqrt_of
@@ -71,8 +62,8 @@ special_itself nan p h = refl
 special_itself (inf true) p h = absurd (true≢false h)
 special_itself (inf false) p h = refl
 special_itself (fin s zero e) p h = refl
-special_itself (fin true (suc m) e) p h = absurd (true≢false (sym (nothing_above m (up e) (down e) (up_pos e)) ∙ h))
-special_itself (fin false (suc m) e) p h = absurd (true≢false (sym (lt-ltb 0 (suc m) (zero-lt-suc m)) ∙ p))
+special_itself (fin true (suc m) e) p h = absurd (grind (arith, up_pos))
+special_itself (fin false (suc m) e) p h = absurd (grind (arith, up_pos))
 
 -- ---- the patterns of the positive finite values
 pub positive_number : (x : Float) → T (positive x) → T (not (is_nan x))
@@ -109,22 +100,24 @@ positive_bits b l p =
     omega (arith, low, a, c, d, g)
 
 -- ---- above zero, the patterns of the finite values are those below infinity's
-pub above_number : (x : Float) → lt (of_bits binary64 0) x ≡ true → T (not (is_nan x))
-unfolding lt of_bits is_nan
-above_number nan h = absurd (false≢true h)
-above_number (inf s) h = tt
-above_number (fin s m e) h = tt
-
 below_infinity : (x : Float) → T (fits binary64 x) → T (positive x) → ltb (to_bits binary64 x) (2047 * 2 ^ 52) ≡ true
-below_infinity x f p =
-    let b = positive_bits (to_bits binary64 x) (to_bits-lt binary64 x f) (subst (λ (v : Float). T (positive v)) (sym (of_bits-to_bits binary64 x f)) p) in
-    lt-ltb (to_bits binary64 x) (2047 * 2 ^ 52) b.1
+below_infinity x f p = grind (arith, positive_bits, to_bits-lt, of_bits-to_bits, lt-ltb)
 
-pub ordinary_if : (x : Float) → T (fits binary64 x) → lt (of_bits binary64 0) x ≡ true → ltb (to_bits binary64 x) (2047 * 2 ^ 52) ≡ positive x
+ordinary_if : (x : Float) → T (fits binary64 x) → lt (of_bits binary64 0) x ≡ true → ltb (to_bits binary64 x) (2047 * 2 ^ 52) ≡ positive x
 unfolding lt of_bits to_bits
 ordinary_if nan f h = absurd (false≢true h)
 ordinary_if (inf true) f h = absurd (false≢true h)
 ordinary_if (inf false) f h = refl
 ordinary_if (fin true m e) f h = absurd (false≢true h)
-ordinary_if (fin false zero e) f h = absurd (zero_not_above (up e) (down e) h)
+ordinary_if (fin false zero e) f h = absurd (grind (arith, up_pos))
 ordinary_if (fin false (suc m) e) f h = below_infinity (fin false (suc m) e) f (lt→ltb 0 (suc m) (zero-lt-suc m)) ∙ sym (lt-ltb 0 (suc m) (zero-lt-suc m))
+
+pub finite_above : (x : Float) → fits binary64 x ≡ true → lt (of_bits binary64 0) x ≡ true → to_bits binary64 x < 2047 * 2 ^ 52 → (0 < to_bits binary64 x) × (sqrt_of (of_bits binary64 (to_bits binary64 x)) ≡ sqrt_of x)
+finite_above x f h l =
+    let held = subst T (sym f) tt in
+    let back = of_bits-to_bits binary64 x held in
+    let p : T (positive x) = subst T (sym (lt-ltb (to_bits binary64 x) (2047 * 2 ^ 52) l) ∙ ordinary_if x held h) tt in
+    ((positive_bits (to_bits binary64 x) (to_bits-lt binary64 x held) (subst (λ (v : Float). T (positive v)) (sym back) p)).0, ap sqrt_of back)
+
+pub infinite_above : (x : Float) → fits binary64 x ≡ true → lt (of_bits binary64 0) x ≡ true → 2047 * 2 ^ 52 ≤ to_bits binary64 x → positive x ≡ false
+infinite_above x f h l = sym (ordinary_if x (subst T (sym f) tt) h) ∙ le-ltb (to_bits binary64 x) (2047 * 2 ^ 52) l

@@ -1,10 +1,10 @@
 -- Products and quotients that come out exactly: of a zero, of one, and of a value by itself. Assumes nothing.
 use Prim.Native.Nat.{ℕ, zero, suc, ◌+◌, ◌-◌, ◌*◌, ◌%◌, ◌^◌, ◌≤◌, ◌<◌}
 use mathlib.Core.Path.{◌≡◌, refl, sym, ap, ◌∙◌, subst}
-use mathlib.Core.Bool.{Bool, true, false, ◌&&◌}
+use mathlib.Core.Bool.{true, false, ◌&&◌}
 use native.Mathlib.Nat.{mul_comm, mul_assoc, mul-one, one-mul, zero-mul, mul-zero, mul-pos, mul-lt-mul_of_pos_right, sub-add_cancel, le_refl, zero-lt-suc}
 use native.Mathlib.Omega.{arith}
-use borrow.Author.Tests.{leb-true, leb-false, ne_eqb}
+use borrow.Author.Tests.{leb-true, leb-false}
 use lib.IntN.{ℤ, pos, negsuc}
 use lib.Dec.{T, eqb, ltb, leb, leb→le, ltb→lt}
 use lib.Pow.{pow-add, pow_pos, pow-lt}
@@ -21,11 +21,7 @@ use Rattle.scalar.specs.Scalar.{f0, f1}
 -- ---- a value of the format is its own rounding
 
 pow_le_back : (i j : ℕ) → 2 ^ i ≤ 2 ^ j → i ≤ j
-pow_le_back i j h = go (leb i j) refl
-  where
-    go : (b : Bool) → leb i j ≡ b → i ≤ j
-    go true e = leb-true i j e
-    go false e = let l = pow-lt (leb-false i j e) in absurd (omega arith)
+pow_le_back i j h = grind (arith, leb, leb-true, pow-lt, leb-false)
 
 module _ (f : Format) where
   -- m * 2 ^ e is m * 2 ^ j of the format's smallest values
@@ -90,7 +86,7 @@ round_one : (a : ℕ) → 0 < a → round binary64 false a a ≡ f1
 round_one a h = round_same binary64 false a a 1 1 h (zero-lt-suc 0) (mul-one a ∙ sym (one-mul a)) ∙ (unfold round of_bits in refl)
 
 not_zero : (m : ℕ) → T (ltb 0 m) → eqb m 0 ≡ false
-not_zero m p = let l = ltb→lt 0 m p in ne_eqb m 0 (λ (e : m ≡ 0). omega arith)
+not_zero m p = grind arith
 
 pub zero_times : (x : Float) → T (positive x) → mul binary64 f0 x ≡ f0
 unfolding mul of_bits

@@ -1,9 +1,8 @@
 pub mod Squares
 pub mod WholeRoot
-pub mod Heron
+pub mod Division
 pub mod Patterns
 pub mod Nearest
 pub mod Cases
-pub mod Sign
 pub mod Monotone
 pub mod Exact

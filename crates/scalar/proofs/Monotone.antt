@@ -42,7 +42,7 @@ above_zero (fin true m e) a = absurd a
 above_zero (fin false m e) a = cross→le f0 (fin false m e) tt tt (omega arith)
 
 below_zero : (m : ℕ) (e : ℤ) → T (le f0 (fin true (suc m) e)) → ⊥
-below_zero m e h = true≢false (sym (minus_below m e) ∙ not_lt_of_le f0 (fin true (suc m) e) h)
+below_zero m e h = grind (arith, minus_below, not_lt_of_le, f0)
 
 -- ---- what is not below zero has a root that is not, and what is above zero one that is above
 
@@ -140,7 +140,7 @@ abbrev pub itself : Float → Float
 itself x = x
 
 pub sqrt_greater : (m c : Float) → T (fits binary64 m) → T (fits binary64 c) → lt m f0 ≡ false → sqrt_of (greater itself m c) ≡ greater itself (sqrt_of m) (sqrt_of c)
-sqrt_greater m c h k z = greater_kept sqrt_of m c (sqrt_order m c h k z)
+sqrt_greater m c h k z = grind (arith, greater_kept, sqrt_order)
 
 pub sqrt_lesser : (m c : Float) → T (fits binary64 m) → T (fits binary64 c) → lt c f0 ≡ false → sqrt_of (lesser itself m c) ≡ lesser itself (sqrt_of m) (sqrt_of c)
-sqrt_lesser m c h k z = lesser_kept sqrt_of c m (sqrt_order c m k h z)
+sqrt_lesser m c h k z = grind (arith, lesser_kept, sqrt_order)

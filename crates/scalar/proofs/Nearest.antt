@@ -3,9 +3,9 @@ use mathlib.Core.Path.{◌≡◌, refl, sym, ap, ◌∙◌, subst}
 use mathlib.Core.Logic.{◌⊎◌, inl, inr}
 use mathlib.Core.Bool.{Bool, true, false, cond}
 use Prim.Native.Nat.{ℕ, zero, suc, ◌+◌, ◌-◌, ◌*◌, ◌/◌, ◌%◌, ◌^◌, ◌≤◌, ◌<◌}
-use native.Mathlib.Nat.{le_refl, le_antisymm, zero-lt-suc, add_comm, le_trans, le_of_eq, lt_of_lt_of_le, lt_of_le_of_lt, lt_of_not-le, not-le_of_lt, mul-le-mul, mul-le-mul_right, mul-lt-mul_of_pos_right, mul_assoc, mul-mul-mul_comm, add-mul, mul-pos, mul-div_cancel, eq-zero-or-pos, eq-or-lt_of_le, le_of_suc-le-suc}
+use native.Mathlib.Nat.{le_of_lt, sub-add_cancel, le_refl, le_antisymm, zero-lt-suc, le_trans, le_of_eq, lt_of_lt_of_le, lt_of_le_of_lt, lt_of_not-le, not-le_of_lt, mul-le-mul, mul-le-mul_right, mul-lt-mul_of_pos_right, mul_assoc, mul-mul-mul_comm, mul-pos, mul-div_cancel, eq-or-lt_of_le, le_of_suc-le-suc}
 use native.Mathlib.Omega.{arith}
-use lib.Dec.{T, leb, eqb, lt→ltb}
+use lib.Dec.{T, leb, lt→ltb}
 use lib.Pow.{pow-add, pow_pos, pow_mono, shl_lt}
 use lib.Ieee.{Float, nan, inf, fin, binary64, down, size, units, fits, of_fields, of_bits, to_bits}
 use lib.Ieee.Digits.{size-lt, size-le, size_reaches}
@@ -14,8 +14,9 @@ use lib.Ieee.Bits.{of_bits-to_bits}
 use lib.Ieee.Exact.{HasValue, odd_sign, units_val}
 use lib.Ieee.Scale.{finite}
 use lib.Ieee.Positive.{positive, positive-finite, value_pos, first_pos, positive_of_value}
+use Rattle.std.proofs.lemmas.Bool.{cases_lt}
 use Rattle.scalar.specs.Sqrt.{root, rounded, sqrt_of, in_units, Nearer, Nearest}
-use Rattle.scalar.proofs.Squares.{square_even, square_next, square_odd}
+use Rattle.scalar.proofs.Squares.{square_even}
 use Rattle.scalar.proofs.WholeRoot.{IsRoot, square_lt, root_is_root, rounded_down, rounded_up}
 use Rattle.scalar.proofs.Patterns.{units_is, of_bits_is, fields_low, fields_normal, sqrt_positive}
 
@@ -36,7 +37,7 @@ top_not_finite false s t = t
 
 fields_finite : (s : Bool) (t : ℕ) → T (finite (of_fields binary64 s 2047 t)) → ⊥
 unfolding of_fields
-fields_finite s t h = top_not_finite (eqb t 0) s h
+fields_finite s t h = grind arith
 
 fields_grid : (s : Bool) (x t : ℕ) → x < 2048 → t < 2 ^ 52 → T (finite (of_fields binary64 s x t)) → Grid (of_fields binary64 s x t)
 fields_grid s zero t l h f = subst Grid (sym (fields_low s t)) (s, t, 0, odd_sign 53 s t 0 1074, omega arith, omega arith)
@@ -76,52 +77,34 @@ split q e p h l =
 
 -- ---- between q * 2 ^ k and the next multiple of 2 ^ k lies no value of the format, for a q of 53 digits at least
 gap : (q k p j : ℕ) → 2 ^ 52 ≤ q → p < 2 ^ 53 → (p * 2 ^ j ≤ q * 2 ^ k) ⊎ ((q + 1) * 2 ^ k ≤ p * 2 ^ j)
-gap q k p j h l = go (dec k j)
-  where
-    dec : (a b : ℕ) → (a ≤ b) ⊎ (b < a)
-    dec a b = elim (eq-zero-or-pos (a - b)) [ inl z ↦ inl (omega arith) | inr z ↦ inr (omega arith) ]
-
-    join : k ≤ j → j - k + k ≡ j
-    join g = omega arith
-
-    next : (a b : ℕ) → b < a → b + 1 ≤ a
-    next a b g = omega arith
-
-    go : (k ≤ j) ⊎ (j < k) → (p * 2 ^ j ≤ q * 2 ^ k) ⊎ ((q + 1) * 2 ^ k ≤ p * 2 ^ j)
-    go (inl g) =
-        let b : p * 2 ^ j ≡ p * 2 ^ (j - k) * 2 ^ k = ap (λ (x : ℕ). p * 2 ^ x) (sym (join g)) ∙ ap (λ (x : ℕ). p * x) (pow-add 2 (j - k) k) ∙ sym (mul_assoc p (2 ^ (j - k)) (2 ^ k)) in
-        elim (dec (p * 2 ^ (j - k)) q) [
-          | inl d ↦ inl (le_trans (le_of_eq b) (mul-le-mul_right (2 ^ k) d))
-          | inr d ↦ inr (le_trans (mul-le-mul_right (2 ^ k) (next (p * 2 ^ (j - k)) q d)) (le_of_eq (sym b)))
-        ]
-    go (inr g) =
-        inl (le_trans (le_of_lt' (shl_lt 53 j l)) (le_trans (pow_mono (room j k g)) (le_trans (le_of_eq (pow-add 2 52 k)) (mul-le-mul_right (2 ^ k) h))))
-      where
-        room : (j k : ℕ) → j < k → 53 + j ≤ 52 + k
-        room j k g = omega arith
-
-        le_of_lt' : {a b : ℕ} → a < b → a ≤ b
-        le_of_lt' d = omega arith
+gap q k p j h l = elim (cases_lt j k) [
+  | inl g ↦
+      let room : 53 + j ≤ 52 + k = omega arith in
+      let top = le_trans (pow_mono room) (le_trans (le_of_eq (pow-add 2 52 k)) (mul-le-mul_right (2 ^ k) h)) in
+      inl (le_trans (le_of_lt (shl_lt 53 j l)) top)
+  | inr g ↦
+      let d = p * 2 ^ (j - k) in
+      let b : p * 2 ^ j ≡ d * 2 ^ k = ap (λ (x : ℕ). p * 2 ^ x) (sym (sub-add_cancel g)) ∙ ap (λ (x : ℕ). p * x) (pow-add 2 (j - k) k) ∙ sym (mul_assoc p (2 ^ (j - k)) (2 ^ k)) in
+      elim (cases_lt q d) [
+        | inl n ↦
+            let next : q + 1 ≤ d = omega arith in
+            inr (le_trans (mul-le-mul_right (2 ^ k) next) (le_of_eq (sym b)))
+        | inr n ↦ inl (le_trans (le_of_eq b) (mul-le-mul_right (2 ^ k) n))
+      ]
+]
 
 -- ---- squares in units of 2 ^ k
 square_units : (a k : ℕ) → a * 2 ^ k * (a * 2 ^ k) ≡ a * a * 2 ^ (2 * k)
-square_units a k = mul-mul-mul_comm a (2 ^ k) a (2 ^ k) ∙ ap (λ (x : ℕ). a * a * x) (sym (pow-add 2 k k) ∙ ap (λ (x : ℕ). 2 ^ x) (twice k))
-  where
-    twice : (k : ℕ) → k + k ≡ 2 * k
-    twice k = omega arith
+square_units a k =
+    let twice : k + k ≡ 2 * k = omega arith in
+    mul-mul-mul_comm a (2 ^ k) a (2 ^ k) ∙ ap (λ (x : ℕ). a * a * x) (sym (pow-add 2 k k) ∙ ap (λ (x : ℕ). 2 ^ x) twice)
 
 square_mono : (a b : ℕ) → a < b → a * a < b * b
-square_mono a b h = omega (arith, square_next a, mul-le-mul (next a b h) (next a b h))
-  where
-    next : (a b : ℕ) → a < b → a + 1 ≤ b
-    next a b h = omega arith
+square_mono a b h = grind arith
 
 -- the midpoint of q * 2 ^ k and (q + 1) * 2 ^ k, doubled
 middle : (q k : ℕ) → q * 2 ^ k + (q + 1) * 2 ^ k ≡ (2 * q + 1) * 2 ^ k
-middle q k = sym (add-mul q (q + 1) (2 ^ k)) ∙ ap (λ (x : ℕ). x * 2 ^ k) (both q)
-  where
-    both : (q : ℕ) → q + (q + 1) ≡ 2 * q + 1
-    both q = omega arith
+middle q k = grind arith
 
 -- ---- the nearest value, from the whole root q of M
 module _ (M k q b : ℕ) (g : (b ≤ q * 2 ^ k) ⊎ ((q + 1) * 2 ^ k ≤ b)) where
@@ -139,13 +122,13 @@ module _ (M k q b : ℕ) (g : (b ≤ q * 2 ^ k) ⊎ ((q + 1) * 2 ^ k ≤ b)) whe
 
   -- the square of twice q * 2 ^ k
   twice_square : (a : ℕ) → 2 * (a * 2 ^ k) * (2 * (a * 2 ^ k)) ≡ 4 * (a * a * 2 ^ (2 * k))
-  twice_square a = square_even (a * 2 ^ k) ∙ ap (λ (x : ℕ). 4 * x) (square_units a k)
+  twice_square a = grind (arith, square_even, square_units)
 
   nearer_down : q * q ≤ M → M ≤ q * q + q → Nearer (M * 2 ^ (2 * k)) (q * 2 ^ k) b
   nearer_down lo hi = (
     λ (h : q * 2 ^ k < b). elim g [
       | inl d ↦ absurd (not-le_of_lt h d)
-      | inr d ↦ below_square (2 * q + 1) (q * 2 ^ k + b) (omega (arith, square_odd q)) (omega (arith, middle q k))
+      | inr d ↦ below_square (2 * q + 1) (q * 2 ^ k + b) (grind arith) (omega (arith, middle q k))
     ],
     λ (h : b < q * 2 ^ k).
         omega (arith, square_mono (q * 2 ^ k + b) (2 * (q * 2 ^ k)) (omega arith), twice_square q, mul-le-mul_right (2 ^ (2 * k)) lo),
@@ -156,20 +139,14 @@ module _ (M k q b : ℕ) (g : (b ≤ q * 2 ^ k) ⊎ ((q + 1) * 2 ^ k ≤ b)) whe
     λ (h : (q + 1) * 2 ^ k < b).
         omega (arith, square_mono (2 * ((q + 1) * 2 ^ k)) ((q + 1) * 2 ^ k + b) (omega arith), twice_square (q + 1), mul-lt-mul_of_pos_right hi (pow_pos (2 * k))),
     λ (h : b < (q + 1) * 2 ^ k). elim g [
-      | inl d ↦ above_square (2 * q + 1) ((q + 1) * 2 ^ k + b) (omega (arith, square_odd q)) (omega (arith, middle q k))
+      | inl d ↦ above_square (2 * q + 1) ((q + 1) * 2 ^ k + b) (grind arith) (omega (arith, middle q k))
       | inr d ↦ absurd (not-le_of_lt h d)
     ],
   )
 
 -- ---- a positive number's root
 within : (q k : ℕ) → q ≤ 2 ^ 53 → 2 * k < 3120 → q * 2 ^ k < 2 ^ 2098
-within q k h l = lt_of_lt_of_le (shl_lt 54 k (room q h)) (pow_mono (few k l))
-  where
-    room : (q : ℕ) → q ≤ 2 ^ 53 → q < 2 ^ 54
-    room q h = omega arith
-
-    few : (k : ℕ) → 2 * k < 3120 → 54 + k ≤ 2098
-    few k l = omega arith
+within q k h l = let few : 54 + k ≤ 2098 = omega arith in lt_of_lt_of_le (shl_lt 54 k (omega arith)) (pow_mono few)
 
 -- the rounded root of n squared units is v, r units: a value of the format, and nearer than each other
 abbrev Rooted : ℕ → Float → Type 0
@@ -181,12 +158,9 @@ rooted_units n q k p h l near =
       q * 2 ^ k,
       units_val binary64 false q k w,
       mul-pos p (pow_pos k),
-      subst (λ (v : Float). T (fits binary64 v)) (sym (units_is q k w)) (odd-fits binary64 54 false q k (room q h) h w),
+      subst (λ (v : Float). T (fits binary64 v)) (sym (units_is q k w)) (odd-fits binary64 54 false q k (omega arith) h w),
       near,
     )
-  where
-    room : (q : ℕ) → q ≤ 2 ^ 53 → q < 2 ^ 54
-    room q h = omega arith
 
 rooted_split : (M k : ℕ) → 2 ^ 104 ≤ M → M < 2 ^ 106 → 2 * k < 3120 → Rooted (M * 2 ^ (2 * k)) (rounded (M * 2 ^ (2 * k)))
 rooted_split M k lo hi l = go (M - (q * q + q)) refl
@@ -236,11 +210,8 @@ rooted x h p =
       q * 2 ^ j,
       v,
       subst (λ (w : Float). Rooted (q * 2 ^ j * 2 ^ 1074) w) (sym (sqrt_positive x (q * 2 ^ j) a_pos v))
-          (subst (λ (n : ℕ). Rooted n (rounded n)) (sym same) (rooted_split s.0 s.1 s.3 s.4 (small j s.1 s.5 g.5))),
+          (subst (λ (n : ℕ). Rooted n (rounded n)) (sym same) (rooted_split s.0 s.1 s.3 s.4 (omega (arith, s.5, g.5)))),
     )
-  where
-    small : (j k : ℕ) → 2 * k ≤ j + 1074 → j < 2046 → 2 * k < 3120
-    small j k h l = omega arith
 
 -- ---- the laws
 
@@ -262,12 +233,7 @@ sqrt_nearest x h p =
 
 -- m is nearest to the root of a, n to that of b, and each is nearer than the other
 pub in_order : (a b m n u : ℕ) → a ≤ b → Nearer (a * u) m n → Nearer (b * u) n m → m ≤ n
-in_order a b m n u h p q =
-    le_of_suc-le-suc (lt_of_not-le (λ (g : suc n ≤ m).
-    clash (mul-le-mul_right u h) (p.1 g) (q.0 g) (ap (λ (x : ℕ). x * x) (add_comm m n))))
-  where
-    clash : a * u ≤ b * u → (m + n) * (m + n) < 4 * (a * u) → 4 * (b * u) < (n + m) * (n + m) → (m + n) * (m + n) ≡ (n + m) * (n + m) → ⊥
-    clash c d e f = omega arith
+in_order a b m n u h p q = grind arith
 
 -- a value of the format that is above zero is known by its size
 same_size : (x y : Float) → T (fits binary64 x) → T (fits binary64 y) → T (positive x) → T (positive y) → in_units x ≡ in_units y → x ≡ y
@@ -280,13 +246,7 @@ same_size x y h k p q e = sym (of_bits-to_bits binary64 x h) ∙ ap (of_bits bin
     bits (fin false m e) p = unfold to_bits in_units in refl
 
 pub nearest_is_sqrt : (x r : Float) → T (fits binary64 x) → T (positive x) → Nearest x r → r ≡ sqrt_of x
-nearest_is_sqrt x r h p n =
-    let s = sqrt_nearest x h p in
-    let a = n.nearest (sqrt_of x) s.value (positive-finite (sqrt_of x) s.above) in
-    let b = s.nearest r n.value (positive-finite r n.above) in
-    let u = in_units x in
-    same_size r (sqrt_of x) n.value s.value n.above s.above
-    (le_antisymm (in_order u u (in_units r) (in_units (sqrt_of x)) (2 ^ 1074) (le_refl u) a b) (in_order u u (in_units (sqrt_of x)) (in_units r) (2 ^ 1074) (le_refl u) b a))
+nearest_is_sqrt x r h p n = grind (arith, sqrt_nearest, positive-finite, same_size, le_antisymm, in_order, le_refl)
 
 -- ---- the root is a value of the format
 pub sqrt_fits : (x : Float) → T (fits binary64 x) → T (fits binary64 (sqrt_of x))

@@ -3,16 +3,16 @@ use mathlib.Core.Path.{◌≡◌, refl, sym, ap, ◌∙◌, subst}
 use mathlib.Core.Logic.{◌⊎◌, inl, inr}
 use mathlib.Core.Bool.{Bool, true, false, not, cond, true≢false, false≢true}
 use Prim.Native.Nat.{ℕ, zero, suc, ◌+◌, ◌*◌, ◌/◌, ◌%◌, ◌^◌, ◌≤◌, ◌<◌}
-use native.Mathlib.Nat.{lt_of_lt_of_le, lt_irrefl, mul-div_cancel, mul-pos, zero-mul, zero-lt-suc, mul-one, mul_assoc, eq-or-lt_of_le, le_of_suc-le-suc, pow-succ'}
+use native.Mathlib.Nat.{lt_of_lt_of_le, mul-div_cancel, mul-pos, zero-lt-suc, mul-one, mul_assoc, eq-or-lt_of_le, le_of_suc-le-suc, pow-succ'}
 use native.Mathlib.Omega.{arith}
-use lib.Dec.{T, leb, ltb, eqb, nltb→le}
+use lib.Dec.{T, leb, eqb, nltb→le}
 use lib.Pow.{pow-add, pow_pos, pow_mono, shl_lt}
 use lib.Count.{count_trailing_zeros, under}
 use lib.Ieee.{Float, nan, inf, fin, binary64, up, down, minus, odd, units, is_nan, of_fields, of_bits, nan_bits, div}
 use lib.Ieee.Bits.{nan_bits_is, nan_bits_above}
 use lib.Ieee.Fits.{down_pos}
 use lib.Ieee.Exact.{HasValue, odd_sign}
-use borrow.Author.Tests.{lt-leb, le-leb, ne_eqb, lt-ltb}
+use borrow.Author.Tests.{lt-leb, le-leb, ne_eqb}
 use Rattle.scalar.specs.Sqrt.{in_units, rounded, sqrt_of}
 
 -- ---- how a pattern is read
@@ -26,7 +26,7 @@ fields_low s t = refl
 
 pub fields_normal : (s : Bool) (x t : ℕ) → suc x < 2047 → of_fields binary64 s (suc x) t ≡ odd 53 s (2 ^ 52 + t) x 1074
 unfolding of_fields
-fields_normal s x t h = ap (λ (b : Bool). cond b (cond (eqb t 0) (inf s) nan) (odd 53 s (2 ^ 52 + t) x 1074)) (ne_eqb (suc x) 2047 (λ e. omega arith))
+fields_normal s x t h = grind (arith, eqb, ne_eqb)
 
 pub read_low : (b : ℕ) → b < 2 ^ 52 → of_bits binary64 b ≡ odd 53 false b 0 1074
 read_low b h =
@@ -69,13 +69,10 @@ odd_more d s (suc q) k l h = ap (λ (t : ℕ). fin s (suc q / 2 ^ t) (minus (k +
 
 pub units_is : (q k : ℕ) → q * 2 ^ k < 2 ^ 2098 → units binary64 false q k ≡ odd 54 false q k 1074
 unfolding units
-units_is q k h = ap (λ (b : Bool). cond b (odd 54 false q k 1074) (inf false)) (lt-ltb (q * 2 ^ k) (2 ^ 2098) h)
+units_is q k h = grind arith
 
 below_top : (q k : ℕ) → q < 2 ^ 53 → k < 2046 → q * 2 ^ k < 2 ^ 2098
-below_top q k h l = lt_of_lt_of_le (shl_lt 53 k h) (pow_mono (room k l))
-  where
-    room : (k : ℕ) → k < 2046 → 53 + k ≤ 2098
-    room k l = omega arith
+below_top q k h l = grind (arith, lt_of_lt_of_le, shl_lt, pow_mono)
 
 pub write : (q k : ℕ) → 2 ^ 52 ≤ q → q < 2 ^ 53 → k < 2046 → of_bits binary64 (k * 2 ^ 52 + q) ≡ units binary64 false q k
 write q k a b l =
@@ -89,10 +86,10 @@ write q k a b l =
 
 -- ---- `sqrt_of` of a number of units
 no_value : (a d : ℕ) → 0 < a → 0 < d → 0 ≡ a * d → ⊥
-no_value a d h k e = lt_irrefl 0 (subst (λ (x : ℕ). 0 < x) (sym e) (mul-pos h k))
+no_value a d h k e = grind arith
 
 zero_value : (u c : ℕ) → 0 * u * c ≡ 0
-zero_value u c = ap (λ (x : ℕ). x * c) (zero-mul u) ∙ zero-mul c
+zero_value u c = grind arith
 
 pub sqrt_positive : (x : Float) (a : ℕ) → 0 < a → HasValue x false a (2 ^ 1074) → sqrt_of x ≡ rounded (a * 2 ^ 1074)
 unfolding sqrt_of in_units
@@ -159,13 +156,13 @@ odd_number d s (suc q) k l = refl
 
 units_number : (q k : ℕ) → is_nan (units binary64 false q k) ≡ false
 unfolding units is_nan
-units_number q k = go (ltb (q * 2 ^ k) (2 ^ 2098))
-  where
-    go : (b : Bool) → is_nan (cond b (odd 54 false q k 1074) (inf false)) ≡ false
-    go true = odd_number 54 false q k 1074
-    go false = refl
+units_number q k = grind arith
 
 -- ---- the other patterns
+pub nan_constant : of_bits binary64 0x7ff8_0000_0000_0000 ≡ nan
+unfolding of_bits
+nan_constant = refl
+
 pub nan_by_division : div binary64 (of_bits binary64 0) (of_bits binary64 0) ≡ nan
 unfolding div of_bits
 nan_by_division = refl
@@ -173,5 +170,5 @@ nan_by_division = refl
 pub not_above : (b : ℕ) → T (not (is_nan (of_bits binary64 b))) → b % 2 ^ 63 ≤ 2047 * 2 ^ 52
 not_above b h = nltb→le (2047 * 2 ^ 52) (b % 2 ^ 63) (subst (λ (t : Bool). T (not t)) (sym (nan_bits_is binary64 b) ∙ nan_bits_above binary64 b) h)
 
-pub no_nan : (b q k : ℕ) → of_bits binary64 b ≡ units binary64 false q k → T (not (nan_bits binary64 b))
-no_nan b q k e = subst (λ (t : Bool). T (not t)) (sym (nan_bits_is binary64 b ∙ ap is_nan e ∙ units_number q k)) tt
+pub no_nan : (q k : ℕ) → 2 ^ 52 ≤ q → q < 2 ^ 53 → k < 2046 → T (not (nan_bits binary64 (k * 2 ^ 52 + q)))
+no_nan q k a b l = grind (arith, nan_bits_is, write, units_number)

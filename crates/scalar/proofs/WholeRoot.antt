@@ -1,16 +1,15 @@
 -- What `root` and `rounded` give: the whole root by its two squares, and the rounded root of M * 4 ^ k for an M of 105 or 106 digits. Assumes nothing.
-use mathlib.Core.Path.{◌≡◌, refl, sym, ap, ◌∙◌, subst}
+use mathlib.Core.Path.{◌≡◌, sym, ap, ◌∙◌}
 use mathlib.Core.Bool.{Bool, true, false, not, cond}
 use Prim.Native.Nat.{ℕ, zero, suc, ◌+◌, ◌-◌, ◌*◌, ◌/◌, ◌^◌, ◌≤◌, ◌<◌, compare, Ordering}
-use native.Mathlib.Nat.{le_antisymm, lt_of_lt_of_le, lt_of_le_of_lt, lt_of_not-le, not-le_of_lt, lt_irrefl, le_trans, le_of_eq, mul-le-mul, mul-le-mul_right, mul-lt-mul_of_pos_right, mul-div_cancel, mul_assoc, pow-suc}
+use native.Mathlib.Nat.{lt_of_lt_of_le, lt_of_le_of_lt, lt_of_not-le, lt_irrefl, le_trans, le_of_eq, mul-le-mul, mul-le-mul_right, mul-lt-mul_of_pos_right, mul-div_cancel, mul_assoc, pow-suc}
 use native.Mathlib.Numerals.{add-one}
 use native.Mathlib.Omega.{arith}
-use lib.Dec.{T, is_le, compare_is_eq, leb, leb→le, nleb→lt, eqb→eq}
+use lib.Dec.{T, leb, leb→le, nleb→lt}
 use lib.Pow.{pow-add, pow_pos, pow_mono, shl_lt}
 use lib.Ieee.{Float, binary64, size, nearest, units}
 use lib.Ieee.Digits.{size-lt, size-le}
 use Rattle.scalar.specs.Sqrt.{extend, root, rounded}
-use Rattle.scalar.proofs.Squares.{square_even, square_next, square_odd}
 
 -- ---- the whole root
 abbrev pub IsRoot : ℕ → ℕ → Type 0
@@ -19,17 +18,9 @@ IsRoot n r = (r * r ≤ n) × (n < (r + 1) * (r + 1))
 extend_root : (n r : ℕ) → IsRoot (n / 4) r → IsRoot n (extend n (2 * r))
 extend_root n r h = go (leb (suc (2 * r) * suc (2 * r)) n) (leb→le (suc (2 * r) * suc (2 * r)) n) (nleb→lt (suc (2 * r) * suc (2 * r)) n)
   where
-    suc_square : suc (2 * r) * suc (2 * r) ≡ (2 * r + 1) * (2 * r + 1)
-    suc_square = ap (λ (x : ℕ). x * x) (sym (add-one (2 * r)))
-
     go : (b : Bool) → (T b → suc (2 * r) * suc (2 * r) ≤ n) → (T (not b) → n < suc (2 * r) * suc (2 * r)) → IsRoot n (cond b (suc (2 * r)) (2 * r))
-    go true y z =
-        let a : (suc (2 * r) + 1) * (suc (2 * r) + 1) ≡ 4 * ((r + 1) * (r + 1)) = ap (λ (x : ℕ). x * x) (twice r) ∙ square_even (r + 1) in
-        (y tt, omega (arith, h.1))
-      where
-        twice : (r : ℕ) → suc (2 * r) + 1 ≡ 2 * (r + 1)
-        twice r = omega arith
-    go false y z = (omega (arith, square_even r, h.0), omega (arith, suc_square, z tt))
+    go true y z = (y tt, grind (arith, h.1))
+    go false y z = (grind (arith, h.0), grind (arith, z tt))
 
 pub root_is_root : (d n : ℕ) → n < 4 ^ d → IsRoot n (root d n)
 unfolding root
@@ -37,33 +28,17 @@ root_is_root zero n h = omega arith
 root_is_root (suc d) n h = extend_root n (root d (n / 4)) (root_is_root d (n / 4) (omega (arith, pow-suc 4 d)))
 
 pub square_lt : (a b : ℕ) → a * a < b * b → a < b
-square_lt a b h = lt_of_not-le (λ (g : b ≤ a). not-le_of_lt h (mul-le-mul g g))
-
-root_le : (n r s : ℕ) → IsRoot n r → IsRoot n s → r ≤ s
-root_le n r s h k = omega (arith, square_lt r (s + 1) (lt_of_le_of_lt h.0 k.1))
+square_lt a b h = grind arith
 
 pub root_unique : (n r s : ℕ) → IsRoot n r → IsRoot n s → r ≡ s
-root_unique n r s h k = le_antisymm (root_le n r s h k) (root_le n s r k h)
+root_unique n r s h k = grind arith
 
 -- ---- what `compare` says
 pub compare_lt : (a b : ℕ) → a < b → compare a b ≡ Ordering.lt
-compare_lt a b h = go (compare a b) (nleb→lt a b) (eqb→eq a b)
-  where
-    go : (o : Ordering) → (T (not (is_le o)) → b < a) → (T (compare_is_eq o) → a ≡ b) → o ≡ Ordering.lt
-    go Ordering.lt k e = refl
-    go Ordering.eq k e = absurd (lt_irrefl b (subst (λ (x : ℕ). x < b) (e tt) h))
-    go Ordering.gt k e = absurd (not-le_of_lt h (le_of_lt' (k tt)))
-      where
-        le_of_lt' : b < a → b ≤ a
-        le_of_lt' l = omega arith
+compare_lt a b h = grind arith
 
 pub compare_gt : (a b : ℕ) → b < a → compare a b ≡ Ordering.gt
-compare_gt a b h = go (compare a b) (leb→le a b)
-  where
-    go : (o : Ordering) → (T (is_le o) → a ≤ b) → o ≡ Ordering.gt
-    go Ordering.lt k = absurd (not-le_of_lt h (k tt))
-    go Ordering.eq k = absurd (not-le_of_lt h (k tt))
-    go Ordering.gt k = refl
+compare_gt a b h = grind arith
 
 -- ---- `rounded` at M * 4 ^ k
 dropped : (z k : ℕ) → 104 + 2 * k < z → z ≤ 106 + 2 * k → suc z / 2 - 53 ≡ k
@@ -90,15 +65,15 @@ module _ (M k : ℕ) (lo : 2 ^ 104 ≤ M) (hi : M < 2 ^ 106) where
 
   pub rounded_down : (q : ℕ) → q * q ≤ M → M ≤ q * q + q → rounded (M * 2 ^ (2 * k)) ≡ units binary64 false q k
   rounded_down q a b =
-      rounded_is q Ordering.lt (a, omega (arith, square_next q))
+      rounded_is q Ordering.lt (a, grind arith)
       (compare_lt (4 * (M * 2 ^ (2 * k))) ((2 * q + 1) * (2 * q + 1) * 2 ^ (2 * k))
-      (lt_of_le_of_lt (le_of_eq (sym (mul_assoc 4 M (2 ^ (2 * k))))) (mul-lt-mul_of_pos_right (omega (arith, square_odd q)) (pow_pos (2 * k)))))
+      (lt_of_le_of_lt (le_of_eq (sym (mul_assoc 4 M (2 ^ (2 * k))))) (mul-lt-mul_of_pos_right (grind arith) (pow_pos (2 * k)))))
 
   pub rounded_up : (q : ℕ) → q * q + q < M → M < (q + 1) * (q + 1) → rounded (M * 2 ^ (2 * k)) ≡ units binary64 false (q + 1) k
   rounded_up q a b =
       rounded_is q Ordering.gt (omega arith, b)
       (compare_gt (4 * (M * 2 ^ (2 * k))) ((2 * q + 1) * (2 * q + 1) * 2 ^ (2 * k))
-      (lt_of_lt_of_le (mul-lt-mul_of_pos_right (omega (arith, square_odd q)) (pow_pos (2 * k))) (le_of_eq (mul_assoc 4 M (2 ^ (2 * k))))))
+      (lt_of_lt_of_le (mul-lt-mul_of_pos_right (grind arith) (pow_pos (2 * k))) (le_of_eq (mul_assoc 4 M (2 ^ (2 * k))))))
       ∙ ap (λ (x : ℕ). units binary64 false x k) (sym (add-one q))
 
 -- ---- the 53 digits of the result, from the whole root q of m * 2 ^ 52 and the remainder e
@@ -107,20 +82,13 @@ Digits m r = (2 ^ 52 ≤ r) × (r < 2 ^ 53) × ((k : ℕ) → rounded (m * 2 ^ 5
 
 module _ (m q e : ℕ) (lo : 2 ^ 52 ≤ m) (hi : m ≤ 2 ^ 54 - 2) (is : q * q + e ≡ m * 2 ^ 52) (rest : e ≤ 2 * q) where
   at_least : 2 ^ 52 ≤ q
-  at_least = omega (arith, square_lt (2 ^ 52) (q + 1) (omega (arith, square_next q)))
+  at_least = grind arith
 
   at_most : q < 2 ^ 53
-  at_most = square_lt q (2 ^ 53) (omega arith)
+  at_most = grind arith
 
   pub digits_down : e ≤ q → Digits m q
-  digits_down h = (at_least, at_most, λ k. rounded_down (m * 2 ^ 52) k (omega arith) (omega arith) q (omega arith) (omega arith))
+  digits_down h = grind (arith, at_least, at_most, rounded_down)
 
   pub digits_up : q < e → Digits m (q + 1)
-  digits_up h =
-      (omega (arith, at_least), next_lt, λ k. rounded_up (m * 2 ^ 52) k (omega arith) (omega arith) q (omega arith) (omega (arith, square_next q)))
-    where
-      next_lt : q + 1 < 2 ^ 53
-      next_lt = lt_of_not-le (λ (g : 2 ^ 53 ≤ q + 1). clash (mul-le-mul g g))
-        where
-          clash : 2 ^ 53 * 2 ^ 53 ≤ (q + 1) * (q + 1) → ⊥
-          clash l = omega (arith, square_next q, at_most)
+  digits_up h = grind (arith, at_least, rounded_up, lt_of_not-le, mul-le-mul, at_most)
