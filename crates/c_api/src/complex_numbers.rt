@@ -1,4 +1,6 @@
 // Square root, absolute value and complex arithmetic.
+#![tactic(auto, unfolding(complex::specs::Complex::outcome_of))]
+
 ghost use Rattle.std.specs.Prelude.{◌≡◌};
 ghost use Rattle.scalar.specs.Scalar.{abs_of};
 ghost use Rattle.scalar.specs.Sqrt.{sqrt_of};

@@ -1,4 +1,6 @@
 // The value of a transfer function and the four responses of a loop, at a frequency whose cosines and sines are lent.
+#![tactic(auto, unfolding(transfer_fn::specs::Evaluation::outcome_of))]
+
 ghost use Rattle.std.specs.Prelude.{◌≡◌};
 ghost use Rattle.transfer_fn.specs.Evaluation.{evaluation};
 ghost use Rattle.sensitivity.specs.Responses.{loop_gain, sensitivity, comp_sensitivity, control_sensitivity, response_by};
@@ -55,7 +57,14 @@ pub extern "C" fn bazintroa_loop_gain_at(
         (transfer_fn controller_b.now controller_a.now controller_order))
         cosines.now sines.now) result out.old out.new }
 {
-    let shaping = loop_of(plant_b, plant_a, plant_order, controller_b, controller_a, controller_order);
+    let shaping = loop_of(
+        plant_b,
+        plant_a,
+        plant_order,
+        controller_b,
+        controller_a,
+        controller_order,
+    );
     shaping.loop_gain_at(cosines, sines).put(out)
 }
 
@@ -75,7 +84,14 @@ pub extern "C" fn bazintroa_sensitivity_at(
         (transfer_fn controller_b.now controller_a.now controller_order))
         cosines.now sines.now) result out.old out.new }
 {
-    let shaping = loop_of(plant_b, plant_a, plant_order, controller_b, controller_a, controller_order);
+    let shaping = loop_of(
+        plant_b,
+        plant_a,
+        plant_order,
+        controller_b,
+        controller_a,
+        controller_order,
+    );
     shaping.sensitivity_at(cosines, sines).put(out)
 }
 
@@ -95,7 +111,14 @@ pub extern "C" fn bazintroa_comp_sensitivity_at(
         (transfer_fn controller_b.now controller_a.now controller_order))
         cosines.now sines.now) result out.old out.new }
 {
-    let shaping = loop_of(plant_b, plant_a, plant_order, controller_b, controller_a, controller_order);
+    let shaping = loop_of(
+        plant_b,
+        plant_a,
+        plant_order,
+        controller_b,
+        controller_a,
+        controller_order,
+    );
     shaping.comp_sensitivity_at(cosines, sines).put(out)
 }
 
@@ -115,6 +138,13 @@ pub extern "C" fn bazintroa_control_sensitivity_at(
         (transfer_fn controller_b.now controller_a.now controller_order))
         cosines.now sines.now) result out.old out.new }
 {
-    let shaping = loop_of(plant_b, plant_a, plant_order, controller_b, controller_a, controller_order);
+    let shaping = loop_of(
+        plant_b,
+        plant_a,
+        plant_order,
+        controller_b,
+        controller_a,
+        controller_order,
+    );
     shaping.control_sensitivity_at(cosines, sines).put(out)
 }

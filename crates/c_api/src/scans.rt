@@ -1,4 +1,6 @@
 // The scans over lists, and the gain crossover of a slice of readings.
+#![tactic(auto, unfolding(sweep::specs::Answer::outcome_of, sweep::specs::Answer::crossing_outcome))]
+
 ghost use Rattle.std.specs.Prelude.{[], ◌∷◌};
 ghost use Rattle.sweep.specs.Scan.{scanned_by};
 ghost use Rattle.bode.specs.Bode as bode;
