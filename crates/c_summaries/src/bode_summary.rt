@@ -1,4 +1,6 @@
 // Summaries of Bode sweeps.
+#![tactic(auto, unfolding(sweep::specs::Answer::crossing_outcome))]
+
 ghost use Rattle.std.specs.Prelude.{◌≡◌, false, [], ◌∷◌};
 ghost use Rattle.sweep.specs.Refusal.{refusal_of, lists_refusal};
 ghost use Rattle.sweep.specs.Runs.{left_by};

@@ -1,4 +1,6 @@
 // Summaries of sweeps of S and T.
+#![tactic(auto, unfolding(sweep::specs::Answer::crossing_outcome, sweep::specs::Answer::kept_outcome))]
+
 ghost use Rattle.std.specs.Prelude.{◌≡◌, false, [], ◌∷◌};
 ghost use Rattle.sweep.specs.Refusal.{refusal_of, lists_refusal};
 ghost use Rattle.sweep.specs.Runs.{left_by};
@@ -9,8 +11,8 @@ ghost use Rattle.sensitivity.specs.Plain.{plain_of, from_plain};
 ghost use Rattle.laws.specs.Outcome.{Answers};
 ghost use Rattle.c_summaries.specs.Fed.{fed_sensitivity};
 
-use sensitivity::{SensitivityPlain, SensitivitySummary};
 use places::Answer;
+use sensitivity::{SensitivityPlain, SensitivitySummary};
 use sweep::FreqError;
 
 // What a feed gives: 0 and the summary with the part behind it, or the refusal and the summary as it came. (There is one for
