@@ -1,6 +1,8 @@
 // Support for the replay programs: the oracle's vectors are read from standard input, a word of eight bytes at a
 // time, and answers are counted. No contract can speak of what is read or printed: a function that reads promises what
 // it does after a read that failed, and one that reads a list its length, and that the places behind it stay.
+// Questions and kinds stay the oracle's numbers: an enum of each program would be made from them by one more match, and
+// be turned back into the place of its counts.
 #![tactic(auto)]
 
 ghost use Rattle.std.specs.Prelude.{◌≡◌, ◌<◌, Bool, false, IsSome, IsTrue, MatchOption};
@@ -77,7 +79,8 @@ impl Input {
     }
 
     // Makes a list of `count` floats that are read, with `pad` copies of the first of them before it, and answers its
-    // length: 0 where `count` is 0. A list that does not fit is cut off.
+    // length: 0 where `count` is 0. A list that does not fit is cut off. No part of the list is lent as the answer: a
+    // clause could not speak of the places behind it then.
     #[tactic(auto, unfolding(crate::specs::Made::made_length))]
     pub fn padded(&mut self, list: &mut [f64], pad: u64, count: u64) -> usize
         ensures { Made pad count list.old list.new result }
@@ -149,18 +152,13 @@ fn known(question: u64) -> usize
 }
 
 // How many answers to a question were compared, and how many of them differ.
-#[derive(Clone, Copy)]
+#[derive(Clone, Copy, Default)]
 pub struct Count {
     pub asked: u64,
     pub differ: u64,
 }
 
 impl Count {
-    const NONE: Self = Self {
-        asked: 0,
-        differ: 0,
-    };
-
     // One answer more.
     #[tactic(auto, unfolding(crate::specs::Tally::one_more))]
     fn add(&mut self, right: bool)
@@ -188,8 +186,8 @@ impl Tally {
         ensures { result ≡ none_asked }
     {
         Self {
-            right: [Count::NONE; 16],
-            wrong: [Count::NONE; 16],
+            right: [Count::default(); 16],
+            wrong: [Count::default(); 16],
             is_wrong: false,
         }
     }
