@@ -61,6 +61,7 @@ def as_rust(text, crates):
     # a model has ghost lines alone
     text = re.sub(r"^use std::marker::Model;\n|^impl\b[^{]*\bModel for [^{]*\{\s*\}\n", "", text, flags=re.M)
     text = text.replace("std::num::nearest_u64_to_f64(", "(|n: u64| n as f64)(")
+    text = text.replace("fn fmt<W: fmt::Write>(&self, f: &mut fmt::Formatter<W>)", "fn fmt(&self, f: &mut fmt::Formatter)")
     text = re.sub(r"\bstd::io\b", "crate::io", text).replace("HostRuntime", "crate::HostRuntime")
     return re.sub(rf"(?<![\w:.])({'|'.join(crates)})::", r"crate::\1::", text)
 
@@ -92,7 +93,7 @@ def build(root, out):
 '''
     source = pathlib.Path(str(out) + ".rs")
     source.write_text(KIT + "".join(module(root, name, crates) for name in crates) + start)
-    words = ["rustc", "--edition", "2021", "-C", "opt-level=1", "-C", "overflow-checks=off", "-o", str(out), str(source)]
+    words = ["rustc", "--edition", "2024", "-C", "opt-level=1", "-C", "overflow-checks=off", "-o", str(out), str(source)]
     ran = subprocess.run(words, capture_output=True, text=True)
     return None if ran.returncode == 0 else ran.stderr
 

@@ -4,93 +4,78 @@
 
 use complex::{Complex, Quotient};
 use std::io;
-use vectors::{Input, Tally, Word};
+use vectors::{Input, Replay};
+use wire::f64_to_bits;
 
-// What the oracle answered: the number, and the bits of the values.
-#[derive(Clone, Copy)]
-struct Expected {
-    number: u64,
-    first: u64,
-    second: u64,
+const QUESTIONS: [(u64, &str); 13] = [
+    (1, "abs"),
+    (2, "sqrt"),
+    (3, "new"),
+    (4, "from_real"),
+    (5, "multiply"),
+    (6, "add"),
+    (7, "sub"),
+    (8, "magnitude"),
+    (9, "magnitude_sq"),
+    (10, "reciprocal"),
+    (11, "divide"),
+    (12, "EPSILON"),
+    (0, "no question"),
+];
+
+// Answers as the oracle writes them: the number, and the bits of two values.
+fn real(x: f64) -> [u64; 3] {
+    [0, f64_to_bits(x), 0]
 }
 
-fn same_real(x: f64, e: Expected) -> bool {
-    (e.number == 0) & (wire::f64_to_bits(x) == e.first) & (e.second == 0)
+fn complex(z: Complex) -> [u64; 3] {
+    [0, f64_to_bits(z.re), f64_to_bits(z.im)]
 }
 
-fn same_complex(z: Complex, e: Expected) -> bool {
-    (e.number == 0) & (wire::f64_to_bits(z.re) == e.first) & (wire::f64_to_bits(z.im) == e.second)
-}
-
-fn same_quotient(q: Quotient, e: Expected) -> bool {
+fn expected(q: Quotient) -> [u64; 3] {
     match q {
-        Quotient::Value(z) => same_complex(z, e),
-        Quotient::Nothing => (e.number == 100) & (e.first == 0) & (e.second == 0),
+        Quotient::Value(z) => complex(z),
+        Quotient::Nothing => [100, 0, 0],
     }
 }
 
-fn right(question: u64, x: Complex, y: Complex, e: Expected) -> bool {
+fn answer_to(question: u64, x: Complex, y: Complex) -> Option<[u64; 3]> {
     match question {
-        1 => same_real(scalar::abs(x.re), e),
-        2 => same_real(scalar::sqrt(x.re), e),
-        3 => same_complex(Complex::new(x.re, x.im), e),
-        4 => same_complex(Complex::from_real(x.re), e),
-        5 => same_complex(x.multiply(y), e),
-        6 => same_complex(x.add(y), e),
-        7 => same_complex(x.sub(y), e),
-        8 => same_real(x.magnitude(), e),
-        9 => same_real(x.magnitude_sq(), e),
-        10 => same_quotient(x.reciprocal(), e),
-        11 => same_quotient(x.divide(y), e),
-        12 => same_real(scalar::EPSILON, e),
-        _ => false,
+        1 => Some(real(scalar::abs(x.re))),
+        2 => Some(real(scalar::sqrt(x.re))),
+        3 => Some(complex(Complex::new(x.re, x.im))),
+        4 => Some(complex(Complex::from_real(x.re))),
+        5 => Some(complex(x.multiply(y))),
+        6 => Some(complex(x.add(y))),
+        7 => Some(complex(x.sub(y))),
+        8 => Some(real(x.magnitude())),
+        9 => Some(real(x.magnitude_sq())),
+        10 => Some(expected(x.reciprocal())),
+        11 => Some(expected(x.divide(y))),
+        12 => Some(real(scalar::EPSILON)),
+        _ => None,
     }
+}
+
+fn read_complex(input: &mut Input) -> Complex {
+    Complex::new(input.float(), input.float())
 }
 
 // Reads and answers the rest of a record.
-fn answer(input: &mut Input, question: u64, tally: Tally) -> Tally {
-    let x = Complex::new(vectors::float(input), vectors::float(input));
-    let y = Complex::new(vectors::float(input), vectors::float(input));
-    let e = Expected {
-        number: vectors::number(input),
-        first: vectors::number(input),
-        second: vectors::number(input),
-    };
-    let known = if question < 13 { question } else { 0 };
-    tally.count(known, right(question, x, y, e))
-}
-
-// A proved loop ends, and nothing says that the input does: at most a million records are read, more than any file has.
-fn run(input: &mut Input) -> Tally {
-    let mut tally = Tally::new();
-    for turn in 0..1000000u64 {
-        match vectors::next(input) {
-            Word::Is(head) => {
-                tally = answer(input, vectors::unmarked(head), tally.begin(head));
-            }
-            Word::End => {
-                return tally;
-            }
+fn answer(replay: &mut Replay, question: u64) {
+    let x = read_complex(&mut replay.input);
+    let y = read_complex(&mut replay.input);
+    match answer_to(question, x, y) {
+        Some(words) => replay.compare(question, &words),
+        None => {
+            replay.input.skip(3);
+            replay.no_question();
         }
     }
-    tally
 }
 
 fn main(rt: HostRuntime) -> io::Result<()> {
-    let mut input = Input::new(rt.stdin());
-    let tally = run(&mut input);
-    tally.line(&rt, 1, b"abs")?;
-    tally.line(&rt, 2, b"sqrt")?;
-    tally.line(&rt, 3, b"new")?;
-    tally.line(&rt, 4, b"from_real")?;
-    tally.line(&rt, 5, b"multiply")?;
-    tally.line(&rt, 6, b"add")?;
-    tally.line(&rt, 7, b"sub")?;
-    tally.line(&rt, 8, b"magnitude")?;
-    tally.line(&rt, 9, b"magnitude_sq")?;
-    tally.line(&rt, 10, b"reciprocal")?;
-    tally.line(&rt, 11, b"divide")?;
-    tally.line(&rt, 12, b"EPSILON")?;
-    tally.line(&rt, 0, b"no question")?;
-    input.end()
+    let mut replay = Replay::new(rt.stdin());
+    replay.run(answer);
+    replay.end(&rt, &QUESTIONS)
 }

@@ -2,170 +2,109 @@
 // format.
 #![tactic(auto)]
 
-ghost use Rattle.std.specs.Prelude.{◌≤◌};
-
 use bode::Reading;
-use std::io;
+use std::{array, io};
 use sweep::Answer;
-use vectors::{Input, Tally, Word};
+use vectors::Replay;
+use wire::f64_to_bits;
 
-// Whether an answer is the next one expected: its number, and the bits of its value.
-fn expected(input: &mut Input, a: Answer) -> bool {
-    let number = vectors::number(input);
-    let value = vectors::number(input);
-    match a {
-        Answer::Found(x) => (number == 0) & (wire::f64_to_bits(x) == value),
-        Answer::Absent => (number == 100) & (value == 0),
-        Answer::Refused(e) => (number == e.number() as u64) & (value == 0),
-    }
-}
+const QUESTIONS: [(u64, &str); 9] = [
+    (1, "gain_crossover_frequency"),
+    (2, "phase_crossover_frequency"),
+    (3, "gain_margin"),
+    (4, "phase_margin"),
+    (8, "gain_crossover_readings"),
+    (5, "sensitivity_crossover"),
+    (6, "bandwidth"),
+    (7, "distance_to_critical"),
+    (0, "no question"),
+];
 
-// Passes over the next answer, which is to a question that is not asked here.
-fn skip(input: &mut Input) {
-    vectors::number(input);
-    vectors::number(input);
+// The words of an answer: its number, and the bits of its value.
+const ANSWER: usize = 2;
+
+// Compares an answer to a question.
+fn compare(replay: &mut Replay, question: u64, answer: Answer) {
+    let words = match answer {
+        Answer::Found(x) => [0, f64_to_bits(x)],
+        Answer::Absent => [100, 0],
+        Answer::Refused(e) => [e.number() as u64, 0],
+    };
+    replay.compare(question, &words);
 }
 
 fn float_at(list: &[f64], i: usize) -> f64 {
-    if i < list.len() { list[i] } else { 0.0 }
-}
-
-fn reading_at(omega: &[f64], db: &[f64], phase: &[f64], i: usize) -> Reading {
-    Reading {
-        omega: float_at(omega, i),
-        db: float_at(db, i),
-        phase: float_at(phase, i),
-    }
+    list.get(i).copied().unwrap_or(0.0)
 }
 
 // The readings of a sweep, with zeros behind them.
 fn readings(omega: &[f64], db: &[f64], phase: &[f64]) -> [Reading; 5000] {
-    let none = Reading {
-        omega: 0.0,
-        db: 0.0,
-        phase: 0.0,
-    };
-    let mut rs = [none; 5000];
-    for i in 0usize..5000 {
-        rs[i] = reading_at(omega, db, phase, i);
-    }
-    rs
-}
-
-// What the scan over a slice of readings answers on the first n.
-fn crossover(rs: [Reading; 5000], n: usize) -> Answer
-    requires { n ≤ 5000 }
-{
-    bode::gain_crossover_readings(&rs[..n])
+    array::from_fn(|i| Reading {
+        omega: float_at(omega, i),
+        db: float_at(db, i),
+        phase: float_at(phase, i),
+    })
 }
 
 // Lists of different lengths are no readings, and the answer is to nothing then.
-fn ask_readings(
-    input: &mut Input,
-    omega: &[f64],
-    db: &[f64],
-    phase: &[f64],
-    tally: Tally,
-) -> Tally {
+fn ask_readings(replay: &mut Replay, omega: &[f64], db: &[f64], phase: &[f64]) {
     let n = omega.len();
-    if n <= 5000 {
-        if (db.len() == n) & (phase.len() == n) {
-            let rs = readings(omega, db, phase);
-            return tally.count(8, expected(input, crossover(rs, n)));
-        }
+    if n <= 5000 && db.len() == n && phase.len() == n {
+        let rs = readings(omega, db, phase);
+        compare(replay, 8, bode::gain_crossover_readings(&rs[..n]));
+    } else {
+        replay.input.skip(ANSWER);
     }
-    skip(input);
-    tally
 }
 
-fn ask_bode(input: &mut Input, omega: &[f64], db: &[f64], phase: &[f64], tally: Tally) -> Tally {
-    let asked = tally
-        .count(
-            1,
-            expected(input, bode::gain_crossover_frequency(omega, db, phase)),
-        )
-        .count(
-            2,
-            expected(input, bode::phase_crossover_frequency(omega, db, phase)),
-        )
-        .count(3, expected(input, bode::gain_margin(omega, db, phase)))
-        .count(4, expected(input, bode::phase_margin(omega, db, phase)));
-    ask_readings(input, omega, db, phase, asked)
+fn ask_bode(replay: &mut Replay, omega: &[f64], db: &[f64], phase: &[f64]) {
+    compare(replay, 1, bode::gain_crossover_frequency(omega, db, phase));
+    compare(replay, 2, bode::phase_crossover_frequency(omega, db, phase));
+    compare(replay, 3, bode::gain_margin(omega, db, phase));
+    compare(replay, 4, bode::phase_margin(omega, db, phase));
+    ask_readings(replay, omega, db, phase);
 }
 
-fn ask_sensitivity(input: &mut Input, omega: &[f64], s: &[f64], t: &[f64], tally: Tally) -> Tally {
-    let asked = tally
-        .count(
-            5,
-            expected(input, sensitivity::sensitivity_crossover(omega, s, t)),
-        )
-        .count(6, expected(input, sensitivity::bandwidth(omega, s, t)));
-    skip(input);
-    skip(input);
-    skip(input);
-    asked
+// The three answers behind these two are to questions that are not asked here.
+fn ask_sensitivity(replay: &mut Replay, omega: &[f64], s: &[f64], t: &[f64]) {
+    compare(replay, 5, sensitivity::sensitivity_crossover(omega, s, t));
+    compare(replay, 6, sensitivity::bandwidth(omega, s, t));
+    replay.input.skip(3 * ANSWER);
 }
 
-fn ask_curve(input: &mut Input, re: &[f64], im: &[f64], tally: Tally) -> Tally {
-    let asked = tally.count(7, expected(input, nyquist::distance_to_critical(re, im)));
-    skip(input);
-    skip(input);
-    skip(input);
-    skip(input);
-    asked
+// Nor are the four behind this one.
+fn ask_curve(replay: &mut Replay, re: &[f64], im: &[f64]) {
+    compare(replay, 7, nyquist::distance_to_critical(re, im));
+    replay.input.skip(4 * ANSWER);
 }
 
-fn ask(input: &mut Input, kind: u64, a: &[f64], b: &[f64], c: &[f64], tally: Tally) -> Tally {
+fn ask(replay: &mut Replay, kind: u64, a: &[f64], b: &[f64], c: &[f64]) {
     match kind {
-        1 => ask_bode(input, a, b, c, tally),
-        2 => ask_sensitivity(input, a, b, c, tally),
-        3 => ask_curve(input, a, b, tally),
-        _ => tally.count(0, false),
+        1 => ask_bode(replay, a, b, c),
+        2 => ask_sensitivity(replay, a, b, c),
+        3 => ask_curve(replay, a, b),
+        _ => replay.no_question(),
     }
 }
 
 // Reads and answers the rest of a case.
-fn answer(input: &mut Input, kind: u64, tally: Tally) -> Tally {
-    let na = vectors::number(input);
-    let nb = vectors::number(input);
-    let nc = vectors::number(input);
-    let pad = vectors::number(input);
+fn answer(replay: &mut Replay, kind: u64) {
+    let input = &mut replay.input;
+    let na = input.number();
+    let nb = input.number();
+    let nc = input.number();
+    let pad = input.number();
     let mut a = [0.0; 5000];
     let mut b = [0.0; 5000];
     let mut c = [0.0; 5000];
-    let i = vectors::padded(input, &mut a, pad, na);
-    let j = vectors::padded(input, &mut b, pad, nb);
-    let k = vectors::padded(input, &mut c, pad, nc);
-    ask(input, kind, &a[..i], &b[..j], &c[..k], tally)
-}
-
-// A proved loop ends, and nothing says that the input does: at most a million cases are read, more than any file has.
-fn run(input: &mut Input) -> Tally {
-    let mut tally = Tally::new();
-    for turn in 0..1000000u64 {
-        match vectors::next(input) {
-            Word::Is(head) => {
-                tally = answer(input, vectors::unmarked(head), tally.begin(head));
-            }
-            Word::End => {
-                return tally;
-            }
-        }
-    }
-    tally
+    let i = input.padded(&mut a, pad, na);
+    let j = input.padded(&mut b, pad, nb);
+    let k = input.padded(&mut c, pad, nc);
+    ask(replay, kind, &a[..i], &b[..j], &c[..k]);
 }
 
 fn main(rt: HostRuntime) -> io::Result<()> {
-    let mut input = Input::new(rt.stdin());
-    let tally = run(&mut input);
-    tally.line(&rt, 1, b"gain_crossover_frequency")?;
-    tally.line(&rt, 2, b"phase_crossover_frequency")?;
-    tally.line(&rt, 3, b"gain_margin")?;
-    tally.line(&rt, 4, b"phase_margin")?;
-    tally.line(&rt, 8, b"gain_crossover_readings")?;
-    tally.line(&rt, 5, b"sensitivity_crossover")?;
-    tally.line(&rt, 6, b"bandwidth")?;
-    tally.line(&rt, 7, b"distance_to_critical")?;
-    tally.line(&rt, 0, b"no question")?;
-    input.end()
+    let mut replay = Replay::new(rt.stdin());
+    replay.run(answer);
+    replay.end(&rt, &QUESTIONS)
 }

@@ -5,89 +5,66 @@
 use sensitivity::LoopShaping;
 use std::io;
 use transfer_fn::{Response, TransferFn};
-use vectors::{Input, Tally, Word};
+use vectors::{Input, Replay};
+use wire::f64_to_bits;
+
+const QUESTIONS: [(u64, &str); 5] = [
+    (1, "eval_tf_complex"),
+    (2, "loop_gain_at"),
+    (3, "sensitivity_at"),
+    (4, "comp_sensitivity_at"),
+    (5, "control_sensitivity_at"),
+];
+
+// Compares a response: its number, and the bits of its two parts.
+fn compare(replay: &mut Replay, question: u64, response: Response) {
+    let words = match response {
+        Response::Value(z) => [0, f64_to_bits(z.re), f64_to_bits(z.im)],
+        Response::Refused(e) => [e.number() as u64, 0, 0],
+    };
+    replay.compare(question, &words);
+}
+
+fn ask(replay: &mut Replay, l: LoopShaping, cosines: &[f64], sines: &[f64]) {
+    let plant = transfer_fn::eval_tf_complex(l.plant, cosines, sines);
+    compare(replay, 1, plant);
+    compare(replay, 2, l.loop_gain_at(cosines, sines));
+    compare(replay, 3, l.sensitivity_at(cosines, sines));
+    compare(replay, 4, l.comp_sensitivity_at(cosines, sines));
+    compare(replay, 5, l.control_sensitivity_at(cosines, sines));
+}
 
 // The coefficients of a transfer function of a given order.
 fn transfer_fn_of(input: &mut Input, order: u64) -> TransferFn {
-    let mut b = [0.0; 8];
-    let mut a = [0.0; 8];
-    vectors::floats(input, &mut b, 8);
-    vectors::floats(input, &mut a, 8);
     TransferFn {
-        b,
-        a,
+        b: input.array(),
+        a: input.array(),
         order: order as usize,
     }
 }
 
-// Whether a response is the next answer: its number, and the bits of its two parts.
-fn expected(input: &mut Input, r: Response) -> bool {
-    let number = vectors::number(input);
-    let re = vectors::number(input);
-    let im = vectors::number(input);
-    match r {
-        Response::Value(z) => {
-            (number == 0) & (wire::f64_to_bits(z.re) == re) & (wire::f64_to_bits(z.im) == im)
-        }
-        Response::Refused(e) => (number == e.number() as u64) & (re == 0) & (im == 0),
-    }
-}
-
-fn ask(input: &mut Input, l: LoopShaping, cosines: &[f64], sines: &[f64], tally: Tally) -> Tally {
-    tally
-        .count(
-            1,
-            expected(input, transfer_fn::eval_tf_complex(l.plant, cosines, sines)),
-        )
-        .count(2, expected(input, l.loop_gain_at(cosines, sines)))
-        .count(3, expected(input, l.sensitivity_at(cosines, sines)))
-        .count(4, expected(input, l.comp_sensitivity_at(cosines, sines)))
-        .count(5, expected(input, l.control_sensitivity_at(cosines, sines)))
-}
-
 // Reads and answers the rest of a case.
-fn answer(input: &mut Input, cosines: u64, tally: Tally) -> Tally {
-    let sines = vectors::number(input);
-    let plant_order = vectors::number(input);
-    let controller_order = vectors::number(input);
+fn answer(replay: &mut Replay, cosines: u64) {
+    let input = &mut replay.input;
+    let sines = input.number();
+    let plant_order = input.number();
+    let controller_order = input.number();
     let plant = transfer_fn_of(input, plant_order);
     let controller = transfer_fn_of(input, controller_order);
     let mut cosine_list = [0.0; 16];
     let mut sine_list = [0.0; 16];
-    let c = vectors::floats(input, &mut cosine_list, cosines);
-    let s = vectors::floats(input, &mut sine_list, sines);
+    let c = input.floats(&mut cosine_list, cosines);
+    let s = input.floats(&mut sine_list, sines);
     ask(
-        input,
+        replay,
         LoopShaping { plant, controller },
         &cosine_list[..c],
         &sine_list[..s],
-        tally,
-    )
-}
-
-// A proved loop ends, and nothing says that the input does: at most a million cases are read, more than any file has.
-fn run(input: &mut Input) -> Tally {
-    let mut tally = Tally::new();
-    for turn in 0..1000000u64 {
-        match vectors::next(input) {
-            Word::Is(head) => {
-                tally = answer(input, vectors::unmarked(head), tally.begin(head));
-            }
-            Word::End => {
-                return tally;
-            }
-        }
-    }
-    tally
+    );
 }
 
 fn main(rt: HostRuntime) -> io::Result<()> {
-    let mut input = Input::new(rt.stdin());
-    let tally = run(&mut input);
-    tally.line(&rt, 1, b"eval_tf_complex")?;
-    tally.line(&rt, 2, b"loop_gain_at")?;
-    tally.line(&rt, 3, b"sensitivity_at")?;
-    tally.line(&rt, 4, b"comp_sensitivity_at")?;
-    tally.line(&rt, 5, b"control_sensitivity_at")?;
-    input.end()
+    let mut replay = Replay::new(rt.stdin());
+    replay.run(answer);
+    replay.end(&rt, &QUESTIONS)
 }

@@ -1,14 +1,16 @@
 // Support for the replay programs: the oracle's vectors are read from standard input, a word of eight bytes at a
-// time, and answers are counted. No contract can speak of what is read or written: a function that reads promises what
+// time, and answers are counted. No contract can speak of what is read or printed: a function that reads promises what
 // it does after a read that failed, and one that reads a list its length, and that the places behind it stay.
+// Questions and kinds stay the oracle's numbers: an enum of each program would be made from them by one more match, and
+// be turned back into the place of its counts.
 #![tactic(auto)]
 
-ghost use Rattle.std.specs.Prelude.{◌≡◌, ◌<◌, false, IsSome, IsTrue, MatchOption};
+ghost use Rattle.std.specs.Prelude.{◌≡◌, ◌<◌, Bool, false, IsSome, IsTrue, MatchOption};
 ghost use Rattle.vectors.specs.Made.{Made};
-ghost use Rattle.vectors.specs.Tally.{unmarked_of, known_of, place_of, none_asked, begun_with, counted_in};
+ghost use Rattle.vectors.specs.Tally.{unmarked_of, known_of, one_more, none_asked, begun_with, counted_in};
 
-use std::io;
-use std::io::{ErrorKind, Print, Read, Stdin, Write};
+use std::io::{ErrorKind, Print, Read, Stdin};
+use std::{array, fmt, io};
 
 // Standard input. It ends where a read fails; that error is kept for the end of the program.
 #[derive(Drop)]
@@ -46,6 +48,81 @@ impl Input {
         }
     }
 
+    // The next word: `None` past the end.
+    pub fn next(&mut self) -> Option<u64>
+        ensures { IsSome self.old.failed → (result ≡ None) × (self.new ≡ self.old) }
+    {
+        let mut bytes = [0; 8];
+        if !self.fill(&mut bytes) {
+            return None;
+        }
+        Some(u64::from_le_bytes(bytes))
+    }
+
+    // The next word, and 0 past the end.
+    pub fn number(&mut self) -> u64
+        ensures { IsSome self.old.failed → (result ≡ 0) × (self.new ≡ self.old) }
+    {
+        self.next().unwrap_or(0)
+    }
+
+    // The f64 whose bits are the next word.
+    pub fn float(&mut self) -> f64
+        ensures { IsSome self.old.failed → self.new ≡ self.old }
+    {
+        wire::f64_from_bits(self.number())
+    }
+
+    // The next N floats.
+    pub fn array<const N: usize>(&mut self) -> [f64; N] {
+        array::from_fn(|_| self.float())
+    }
+
+    // Makes a list of `count` floats that are read, with `pad` copies of the first of them before it, and answers its
+    // length: 0 where `count` is 0. A list that does not fit is cut off. No part of the list is lent as the answer: a
+    // clause could not speak of the places behind it then.
+    #[tactic(auto, unfolding(crate::specs::Made::made_length))]
+    pub fn padded(&mut self, list: &mut [f64], pad: u64, count: u64) -> usize
+        ensures { Made pad count list.old list.new result }
+    {
+        if count == 0 {
+            return 0;
+        }
+        let made = list.len().min(pad.wrapping_add(count) as usize);
+        let first = self.float();
+        for (i, place) in list[..made].iter_mut().enumerate() {
+            *place = if i as u64 <= pad { first } else { self.float() };
+        }
+        made
+    }
+
+    // Fills the first `count` places of a list.
+    pub fn floats(&mut self, list: &mut [f64], count: u64) -> usize
+        ensures { Made 0 count list.old list.new result }
+    {
+        self.padded(list, 0, count)
+    }
+
+    // Passes over so many words.
+    pub fn skip(&mut self, words: usize)
+        ensures { IsSome self.old.failed → self.new ≡ self.old }
+    {
+        for _ in 0..words {
+            self.number();
+        }
+    }
+
+    // Whether the next words are these. As many are read.
+    pub fn next_are(&mut self, words: &[u64]) -> bool
+        ensures { IsSome self.old.failed → self.new ≡ self.old }
+    {
+        let mut same = true;
+        for word in words {
+            same &= self.number() == *word;
+        }
+        same
+    }
+
     // The error of a read that failed, if one did.
     pub fn end(self) -> io::Result<()>
         ensures { MatchOption self.failed (result ≡ Ok tt) (λ e. result ≡ Err e) }
@@ -57,79 +134,12 @@ impl Input {
     }
 }
 
-#[derive(Clone, Copy)]
-pub enum Word {
-    Is(u64),
-    End,
-}
-
-pub fn next(input: &mut Input) -> Word
-    ensures { IsSome input.old.failed → (result ≡ Word.End) × (input.new ≡ input.old) }
-{
-    let mut bytes = [0u8; 8];
-    if !input.fill(&mut bytes) {
-        return Word::End;
-    }
-    Word::Is(wire::u64_at(&bytes, 0))
-}
-
-// The next word, and 0 past the end.
-pub fn number(input: &mut Input) -> u64
-    ensures { IsSome input.old.failed → (result ≡ 0) × (input.new ≡ input.old) }
-{
-    match next(input) {
-        Word::Is(n) => n,
-        Word::End => 0,
-    }
-}
-
-// The f64 whose bits are the next word.
-pub fn float(input: &mut Input) -> f64 {
-    wire::f64_from_bits(number(input))
-}
-
-// The float at place i of a list that starts with `pad` copies of its first float.
-fn float_at(input: &mut Input, i: usize, pad: u64, first: f64) -> f64 {
-    if i as u64 <= pad { first } else { float(input) }
-}
-
-// Makes a list of `count` floats that are read, with `pad` copies of the first of them before it, and answers its
-// length: 0 where `count` is 0. A list that does not fit is cut off.
-pub fn padded(input: &mut Input, list: &mut [f64], pad: u64, count: u64) -> usize
-    ensures { Made pad count list.old list.new result }
-{
-    if count == 0 {
-        return 0;
-    }
-    let end = pad.wrapping_add(count);
-    let first = float(input);
-    let mut i: usize = 0;
-    while i < list.len() {
-        if end <= i as u64 {
-            return i;
-        }
-        list[i] = float_at(input, i, pad, first);
-        i += 1;
-    }
-    i
-}
-
-// Fills the first `count` places of a list.
-pub fn floats(input: &mut Input, list: &mut [f64], count: u64) -> usize
-    ensures { Made 0 count list.old list.new result }
-{
-    padded(input, list, 0, count)
-}
-
 // The first word of a case without the mark, 128, that its answers are wrong on purpose.
 #[tactic(auto, unfolding(crate::specs::Tally::unmarked_of, crate::specs::Tally::marked_at))]
 pub fn unmarked(head: u64) -> u64
     ensures { result ≡ unmarked_of head }
 {
-    if 128 <= head {
-        return head - 128;
-    }
-    head
+    if 128 <= head { head - 128 } else { head }
 }
 
 // A question from 16 on counts as question 0, which is none.
@@ -138,32 +148,36 @@ fn known(question: u64) -> usize
     ensures is { result ≡ known_of question }
     ensures small { result < 16 }
 {
-    if 16 <= question {
-        return 0;
-    }
-    question as usize
+    if question < 16 { question as usize } else { 0 }
 }
 
-// The place of a question's counts: apart for answers that are wrong on purpose.
-#[tactic(auto, unfolding(crate::specs::Tally::place_of))]
-fn place(question: u64, wrong: bool) -> usize
-    ensures is { result ≡ place_of question wrong }
-    ensures small { result < 32 }
-{
-    let q = known(question);
-    if wrong {
-        return q + 16;
-    }
-    q
+// How many answers to a question were compared, and how many of them differ.
+#[derive(Clone, Copy, Default)]
+pub struct Count {
+    pub asked: u64,
+    pub differ: u64,
 }
 
-// How many answers to each question were compared, and how many of them differ: first those of cases that are right,
-// then those of cases that are wrong on purpose. `wrong` says which the present case is.
+impl Count {
+    // One answer more.
+    #[tactic(auto, unfolding(crate::specs::Tally::one_more))]
+    fn add(&mut self, right: bool)
+        ensures { self.new ≡ one_more self.old right }
+    {
+        self.asked = self.asked.wrapping_add(1);
+        if !right {
+            self.differ = self.differ.wrapping_add(1);
+        }
+    }
+}
+
+// The counts of each question, of cases that are right and of those that are wrong on purpose. `is_wrong` says which the
+// present case is.
 #[derive(Clone, Copy)]
 pub struct Tally {
-    pub asked: [u64; 32],
-    pub differ: [u64; 32],
-    pub wrong: bool,
+    pub right: [Count; 16],
+    pub wrong: [Count; 16],
+    pub is_wrong: bool,
 }
 
 impl Tally {
@@ -172,53 +186,110 @@ impl Tally {
         ensures { result ≡ none_asked }
     {
         Self {
-            asked: [0; 32],
-            differ: [0; 32],
-            wrong: false,
+            right: [Count::default(); 16],
+            wrong: [Count::default(); 16],
+            is_wrong: false,
         }
     }
 
     // A case begins, with this word.
     #[tactic(auto, unfolding(crate::specs::Tally::begun_with, crate::specs::Tally::marked_at))]
-    pub fn begin(mut self, head: u64) -> Self
-        ensures { result ≡ begun_with self head }
+    pub fn begin(&mut self, head: u64)
+        ensures { self.new ≡ begun_with self.old head }
     {
-        self.wrong = 128 <= head;
-        self
+        self.is_wrong = 128 <= head;
     }
 
     // One answer more.
     #[tactic(auto, unfolding(crate::specs::Tally::counted_in, crate::specs::Tally::one_more_at))]
-    pub fn count(mut self, question: u64, right: bool) -> Self
-        ensures { result ≡ counted_in self question right }
+    pub fn count(&mut self, question: u64, right: bool)
+        ensures { self.new ≡ counted_in self.old question right }
     {
-        let q = place(question, self.wrong);
-        self.asked[q] = self.asked[q].wrapping_add(1);
-        if !right {
-            self.differ[q] = self.differ[q].wrapping_add(1);
+        let question = known(question);
+        if self.is_wrong {
+            self.wrong[question].add(right);
+        } else {
+            self.right[question].add(right);
         }
-        self
     }
 
     // A line for a question: how often it was asked, and how many answers differ; how many answers are wrong on
     // purpose, and whether all of these were found to differ.
-    pub fn line(self, rt: &impl Print, question: usize, name: &[u8]) -> io::Result<()> {
-        if question < 16 {
-            let asked = self.asked[question];
-            let differ = self.differ[question];
-            io::writer(rt).write_all(name)?;
-            print!(rt; ": {asked} asked, {differ} differ; ")?;
-            print_found(rt, self.asked[question + 16], self.differ[question + 16])?;
-        }
-        Ok(())
+    pub fn line(&self, rt: &impl Print, question: u64, name: &str) -> io::Result<()> {
+        let Count { asked, differ } = self.right[known(question)];
+        let found = Found(self.wrong[known(question)]);
+        println!(rt; "{name}: {asked} asked, {differ} differ; {found}")
     }
 }
 
-// The rest of a line: of the answers that are wrong on purpose, how many were found.
-fn print_found(rt: &impl Print, wrong: u64, found: u64) -> io::Result<()> {
-    if found == wrong {
-        println!(rt; "{wrong} wrong on purpose, all found")
-    } else {
-        println!(rt; "{found} of {wrong} wrong on purpose found")
+// Of the answers that are wrong on purpose, how many were found.
+#[derive(Clone, Copy)]
+struct Found(Count);
+
+impl fmt::Display for Found {
+    fn fmt<W: fmt::Write>(&self, f: &mut fmt::Formatter<W>) -> fmt::Result {
+        let Count { asked, differ } = self.0;
+        if differ == asked {
+            write!(f, "{asked} wrong on purpose, all found")
+        } else {
+            write!(f, "{differ} of {asked} wrong on purpose found")
+        }
+    }
+}
+
+// Cases that are read, and the counts of their answers.
+#[derive(Drop)]
+pub struct Replay {
+    pub input: Input,
+    pub tally: Tally,
+}
+
+impl Replay {
+    pub fn new(stdin: Stdin) -> Self
+        ensures { (result.input.failed ≡ None) × (result.tally ≡ none_asked) }
+    {
+        Self {
+            input: Input::new(stdin),
+            tally: Tally::new(),
+        }
+    }
+
+    // Reads the first word of each case. `answer` is passed it without its mark, reads the rest of the case and counts
+    // its answers. A proved loop ends, and nothing says that the input does: at most a million cases are read, more than
+    // any file has.
+    pub fn run<F: FnMut(&mut Replay, u64)>(&mut self, mut answer: F)
+        requires { F.IsAlwaysCallable answer }
+    {
+        for _ in 0..1000000 {
+            let Some(head) = self.input.next() else {
+                return;
+            };
+            self.tally.begin(head);
+            answer(self, unmarked(head));
+        }
+    }
+
+    // Counts an answer, given as the words that the oracle writes for it: it is right where they are the next.
+    pub fn compare(&mut self, question: u64, words: &[u64])
+        ensures ended { IsSome self.old.input.failed → self.new.input ≡ self.old.input }
+        ensures counted { (right : Bool) × (self.new.tally ≡ counted_in self.old.tally question right) }
+    {
+        let right = self.input.next_are(words);
+        self.tally.count(question, right);
+    }
+
+    // Counts what asks nothing.
+    pub fn no_question(&mut self)
+        ensures { (self.new.input ≡ self.old.input) × (self.new.tally ≡ counted_in self.old.tally 0 false) }
+    {
+        self.tally.count(0, false);
+    }
+
+    // Prints a line for each of these questions, with its name. Then the error of a read that failed, if one did.
+    pub fn end(self, rt: &impl Print, questions: &[(u64, &str)]) -> io::Result<()> {
+        for (question, name) in questions {
+            self.tally.line(rt, *question, name)?;
+        }
+        self.input.end()
     }
 }

@@ -1,25 +1,12 @@
--- Numbers in bytes: one part behind another, a loop that writes them, and that what was written is read back, and what was read is written back. One law
--- each, for every width and place. Assumes nothing.
-use Prim.Native.Nat.{ℕ, zero, suc, ◌+◌, ◌-◌, ◌*◌, ◌/◌, ◌%◌, ◌^◌, ◌<◌, ◌≤◌}
-use mathlib.Core.Path.{◌≡◌, refl, sym, ◌∙◌, ap}
-use mathlib.Core.List.{List, [], ◌∷◌, ◌++◌}
-use native.Mathlib.Nat.{add-suc, suc-add, zero-add, add-zero, mul_assoc, pow-succ', one-mul, mod-add-div, div-lt_iff_lt-mul}
-use native.Mathlib.Numerals.{add-one}
-use native.Mathlib.Omega.{arith}
+-- Numbers in bytes: as std writes and reads them, and that what was written is read back, and what was read is written back. One law each, for every width and
+-- place. Assumes nothing.
+use Rattle.std.proofs.Common.{◌≡◌, ℕ, zero, suc, ◌+◌, ◌-◌, ◌*◌, ◌/◌, ◌%◌, ◌^◌, ◌<◌, ◌≤◌, List, [], ◌∷◌, ◌++◌, length, get_or, take, drop, slice_range, refl, ◌∙◌, ap, add-zero, arith, w64, lit<, length-append, drop-cons}
+use Rattle.std.proofs.Math.Nat.{pow-succ', add-suc, mod-add-div, div-lt_iff_lt-mul, div-div-eq-div-mul}
+use Rattle.std.proofs.lemmas.List.{get_or-drop, get_or-take}
+use Rattle.std.specs.Int.{to_le_bytes, from_le_bytes}
 use borrow.Author.Tests.{le-leb, lt-leb}
-use lib.ListN.{length, get_or, take, drop, set, length-append}
-use lib.Seq.{sets, get_or-append_seam, append_snoc, drop-cons}
+use lib.Seq.{get_or-append_seam, append_snoc}
 use Rattle.wire.specs.Bytes.{little_endian, le_bytes, AreBytes, u64_at, overwritten}
-
-pub in_parts : (m n at : ℕ) (b : List ℕ) → little_endian (m + n) at b ≡ little_endian m at b + 256 ^ m * little_endian n (at + m) b
-unfolding little_endian
-in_parts zero n at b = rw (zero-add n, add-zero at) (sym (zero-add (1 * little_endian n at b) ∙ one-mul (little_endian n at b)))
-in_parts (suc m) n at b =
-    let low = get_or b at 0 in
-    let mid = little_endian m (suc at) b in
-    let high = little_endian n (suc at + m) b in
-    let e : 256 * (256 ^ m * high) ≡ 256 ^ suc m * high = sym (mul_assoc 256 (256 ^ m) high) ∙ ap (λ (p : ℕ). p * high) (sym (pow-succ' 256 m)) in
-    rw (suc-add m n, add-suc at m, ← suc-add at m) (rw (in_parts m n (suc at) b) (omega arith))
 
 pub length-le_bytes : (n x : ℕ) → length (le_bytes n x) ≡ n
 unfolding le_bytes
@@ -31,15 +18,25 @@ unfolding little_endian
 below zero at b bytes = omega arith
 below (suc n) at b bytes = let low = bytes at in let high = below n (suc at) b bytes in omega (arith, pow-succ' 256 n)
 
--- ---- a loop that writes the n bytes of a number: what is left to write gives the whole
-module _ (n : ℕ) {w : List ℕ} (s : List ℕ) (i left : ℕ) (inv : sets s i (le_bytes (n - i) left) ≡ w) where
-  pub write_next : i < n → sets (set s i (left % 256)) (i + 1) (le_bytes (n - (i + 1)) (left / 256)) ≡ w
-  unfolding le_bytes
-  write_next h = let e : n - i ≡ suc (n - (i + 1)) = omega arith in rw add-one (rw (e, add-one) at inv)
+-- ---- eight bytes as std writes and reads them
 
-  pub write_end : n ≤ i → s ≡ w
-  unfolding le_bytes
-  write_end h = let e : n - i ≡ zero = omega arith in rw e at inv
+pub eight_written : (x : ℕ) → to_le_bytes w64 x ≡ le_bytes 8 x
+unfolding le_bytes
+eight_written x = simp div-div-eq-div-mul
+
+from_there : (n at i : ℕ) (b : List ℕ) → little_endian n i (drop at b) ≡ little_endian n (at + i) b
+unfolding little_endian
+from_there zero at i b = refl
+from_there (suc n) at i b = rw (get_or-drop at b i 0, from_there n at (suc i) b, add-suc at i) refl
+
+pub eight_read : (b : List ℕ) (at : ℕ) → from_le_bytes w64 (take 8 (slice_range b at (at + 8))) ≡ little_endian 8 at b
+unfolding little_endian
+eight_read b at =
+    let eight : at + 8 - at ≡ 8 = omega arith in
+    let l = drop at b in
+    let byte = λ (k : ℕ) (h : k < 8). get_or-take 8 (take 8 l) k 0 h ∙ get_or-take 8 l k 0 h in
+    rw eight (omega (arith, byte 0 (lit< tt), byte 1 (lit< tt), byte 2 (lit< tt), byte 3 (lit< tt), byte 4 (lit< tt), byte 5 (lit< tt), byte 6 (lit< tt), byte 7 (lit< tt)))
+    ∙ rw (add-zero at) at (from_there 8 at 0 b)
 
 -- the bytes of a number in the first places of a list
 module _ (n x : ℕ) (l : List ℕ) where
@@ -78,9 +75,14 @@ written_back (suc n) at b bytes h =
 
 -- ---- the u64 in eight bytes
 
-pub u64_there : (b : List ℕ) (at : ℕ) → at + 8 ≤ length b → u64_at b at ≡ little_endian 8 at b
-unfolding u64_at
-u64_there b at h = rw (le-leb (at + 8) (length b) h)
+module _ (b : List ℕ) (at : ℕ) where
+  pub u64_there : at + 8 ≤ length b → u64_at b at ≡ little_endian 8 at b
+  unfolding u64_at
+  u64_there h = rw (le-leb (at + 8) (length b) h)
+
+  pub u64_not_there : length b < at + 8 → u64_at b at ≡ 0
+  unfolding u64_at
+  u64_not_there h = rw (lt-leb (at + 8) (length b) h)
 
 pub u64_read_back : (x : ℕ) (before after : List ℕ) → x < 2 ^ 64 → u64_at (before ++ (le_bytes 8 x ++ after)) (length before) ≡ x
 u64_read_back x before after h =

@@ -1,20 +1,12 @@
-use mathlib.Core.Path.{◌≡◌, sym, ap, subst}
-use mathlib.Core.Bool.{true, false, not}
-use lib.Dec.{T}
-use lib.Ieee.{Float, nan, inf, fin, binary64, ne, is_nan, to_bits}
-use lib.Ieee.Compare.{differs_from_itself, nan_differs}
+use Rattle.std.proofs.Common.{◌≡◌, refl, sym, ◌∙◌, true}
+use lib.Ieee.{Float, nan, inf, fin, binary64, is_nan, to_bits}
 use Rattle.wire.proofs.f64_to_bits.Goals as goal
 
-is_number : (x : Float) → ne x x ≡ false → T (not (is_nan x))
-unfolding is_nan
-is_number nan e =
-    let z : true ≡ false = rw nan_differs at e in absurd (subst (λ (b : _). T (not b)) (sym z) tt)
-is_number (inf s) e = tt
-is_number (fin s m x) e = tt
+nan_pattern : (x : Float) → is_nan x ≡ true → 0x7ff8_0000_0000_0000 ≡ to_bits binary64 x
+unfolding to_bits is_nan
+nan_pattern nan e = refl
+nan_pattern (inf s) e = cc
+nan_pattern (fin s m x) e = cc
 
-pub returns-then-x : goal.returns-then-x
-unfolding to_bits
-returns-then-x c = sym (ap (to_bits binary64) (differs_from_itself c.args.x (subst T (sym c.if-x.true) tt)))
-
-pub float_to_bits-result : goal.float_to_bits-result
-float_to_bits-result c = is_number c.args.x c.if-x.false
+pub returns-then-is_nan : goal.returns-then-is_nan
+returns-then-is_nan c = nan_pattern c.args.x (sym c.is_nan.ensures.value ∙ c.if-is_nan.true)
