@@ -1,15 +1,12 @@
--- The loops over a curve's points: what is left to pass gives the whole curve's answer. Assumes nothing.
-use Prim.Native.Nat.{ℕ, ◌+◌, ◌<◌, ◌≤◌}
-use mathlib.Core.Path.{◌≡◌, refl, ap, ◌∙◌}
+-- The loop over a curve's points, and its points as an iterator gives them. Assumes nothing.
+use mathlib.Core.Path.{◌≡◌, refl, ap}
 use mathlib.Core.Bool.{true, false}
+use mathlib.Core.Logic.{◌⊎◌, inl, inr}
 use mathlib.Core.List.{List, map, [], ◌∷◌, ◌++◌}
-use native.Mathlib.Numerals.{add-one}
 use native.Mathlib.Omega.{arith}
 use borrow.Author.Tests.{eqb-true}
-use lib.ListN.{length, drop, get_or, drop_of_length-le}
-use lib.Seq.{drop-cons}
-use lib.Ieee.{Float, nan, lt, le}
-use Rattle.std.specs.Prelude.{Some, None}
+use lib.ListN.{length}
+use lib.Ieee.{Float, lt}
 use Rattle.std.specs.List.{zip}
 use Rattle.laws.specs.Choice.{lesser}
 use Rattle.laws.proofs.Choice.{lesser_taken, lesser_left, least_from}
@@ -17,8 +14,7 @@ use Rattle.scalar.proofs.Monotone.{itself}
 use Rattle.sweep.proofs.Conditions.{scan_taken}
 use Rattle.complex.specs.Complex.{new_of}
 use Rattle.complex.specs.declared.Complex.{Complex}
-use Rattle.nyquist.specs.Curve.{points, point_square, least_square, infinity, curve_refusal}
-use Rattle.nyquist.specs.Summary.{first_within}
+use Rattle.nyquist.specs.Curve.{points, point_square, curve_refusal}
 
 -- lists that a scan takes
 pub same_length : (re im : List Float) → curve_refusal re im ≡ 0 → length re ≡ length im
@@ -33,38 +29,24 @@ points_append [] (y ∷ ys) us vs h = absurd (omega arith)
 points_append (x ∷ xs) [] us vs h = absurd (omega arith)
 points_append (x ∷ xs) (y ∷ ys) us vs h = ap (λ (l : List Complex). new_of x y ∷ l) (points_append xs ys us vs (omega arith))
 
-module _ (re im : List Float) where
-  -- the points from place i on
-  abbrev pub rest : ℕ → List Complex
-  rest i = points (drop i re) (drop i im)
+-- the points of two lists of which one has ended
+pub points_ended : (xs ys : List Float) → (xs ≡ []) ⊎ (ys ≡ []) → points xs ys ≡ []
+unfolding points
+points_ended [] ys h = refl
+points_ended (x ∷ xs) [] h = refl
+points_ended (x ∷ xs) (y ∷ ys) h = elim h [ inl e ↦ cc | inr e ↦ cc ]
 
-  -- the point at a place
-  abbrev pub point_at : ℕ → Complex
-  point_at i = new_of (get_or re i nan) (get_or im i nan)
-
-  rest_more : (i : ℕ) → i < length re → i < length im → rest i ≡ point_at i ∷ rest (i + 1)
+-- ---- the loop that keeps the least square: a square is taken, or left
+module _ (m x y : Float) (xs ys : List Float) {s : Float} {z : Complex} (e : s ≡ point_square z) (f : z ≡ new_of x y) where
+  taken : {d : Float} → d ≡ lesser itself m s → least_from itself point_square d (points xs ys) ≡ least_from itself point_square m (points (x ∷ xs) (y ∷ ys))
   unfolding points
-  rest_more i h k = rw (add-one, drop-cons re i nan, drop-cons im i nan)
+  taken g = rw (g, e, f)
 
-  rest_none : (i : ℕ) → length re ≤ i → rest i ≡ []
-  unfolding points
-  rest_none i h = rw (drop_of_length-le re h)
+  pub least_taken : lt s m ≡ true → least_from itself point_square s (points xs ys) ≡ least_from itself point_square m (points (x ∷ xs) (y ∷ ys))
+  least_taken t = taken (lesser_taken itself m s t)
 
-  -- the loop that keeps the least square: a square is taken, or left
-  pub least_begin : least_from itself point_square infinity (rest 0) ≡ least_square (points re im)
-  unfolding least_square
-  least_begin = refl
-
-  pub least_taken : (m s : Float) (i : ℕ) → i < length re → i < length im → s ≡ point_square (point_at i) → lt s m ≡ true
-      → least_from itself point_square s (rest (i + 1)) ≡ least_from itself point_square m (rest i)
-  least_taken m s i h k e t = rw (rest_more i h k) (ap (λ (d : Float). least_from itself point_square d (rest (i + 1))) (lesser_taken itself m s t ∙ ap (lesser itself m) e))
-
-  pub least_left : (m s : Float) (i : ℕ) → i < length re → i < length im → s ≡ point_square (point_at i) → lt s m ≡ false
-      → least_from itself point_square m (rest (i + 1)) ≡ least_from itself point_square m (rest i)
-  least_left m s i h k e t = rw (rest_more i h k) (ap (λ (d : Float). least_from itself point_square d (rest (i + 1))) (lesser_left itself m s t ∙ ap (lesser itself m) e))
-
-  pub least_done : (m : Float) (i : ℕ) → length re ≤ i → m ≡ least_from itself point_square m (rest i)
-  least_done m i h = rw (rest_none i h)
+  pub least_left : lt s m ≡ false → least_from itself point_square m (points xs ys) ≡ least_from itself point_square m (points (x ∷ xs) (y ∷ ys))
+  least_left t = taken (lesser_left itself m s t)
 
 -- ---- the points as a chain of iterators gives them
 pub points_zip : (xs ys : List Float) → map (λ (p : Float × Float). new_of p.0 p.1) (zip xs ys) ≡ points xs ys

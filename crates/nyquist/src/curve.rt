@@ -34,15 +34,13 @@ impl<'a> Curve<'a> {
         Ok(Curve { re, im })
     }
 
-    // The least of the squares, and infinity where none is finite. By an index: with a zip, 4,096 points take 10.0 µs, and
-    // so 8.8.
-    #[tactic(auto, using(crate::proofs::Scan::least_begin, crate::proofs::Scan::least_taken, crate::proofs::Scan::least_left, crate::proofs::Scan::least_done))]
+    // The least of the squares, and infinity where none is finite.
     pub fn least_square(&self) -> f64
         ensures { result ≡ least_square (points self.now.re.now self.now.im.now) }
     {
         let mut least = f64::INFINITY;
-        for i in 0..self.re.len() {
-            let square = point_square(Complex::new(self.re[i], self.im[i]));
+        for (re, im) in self.re.iter().zip(self.im) {
+            let square = point_square(Complex::new(*re, *im));
             if square < least {
                 least = square;
             }

@@ -1,4 +1,4 @@
-use Rattle.std.proofs.Common.{◌≡◌, rules, arith, refl, ◌∙◌, sym, ap, Float, Option}
+use Rattle.std.proofs.Common.{rules, arith, refl, ◌∙◌, sym, ap, Float}
 use borrow.Author.Tests.{tests}
 use lib.Ieee.{le}
 use Rattle.std.specs.List.{find}
@@ -8,7 +8,7 @@ use Rattle.std.proofs.lemmas.Iterator.Search.{find_from_yields_List}
 use Rattle.std.proofs.lemmas.Iterator.Consumers.{YieldsList-at}
 use Rattle.complex.specs.Complex.{new_of}
 use Rattle.complex.specs.declared.Complex.{Complex}
-use Rattle.nyquist.specs.Curve.{points, point_square}
+use Rattle.nyquist.specs.Curve.{point_square}
 use Rattle.nyquist.specs.Summary.{first_within}
 use Rattle.nyquist.proofs.Scan.{points_zip}
 use Rattle.nyquist.proofs.curve.Curve.first_within.Goals as goal
