@@ -1,5 +1,5 @@
 -- The conditions of a locus point: those that are known before its polynomial, and the last one, on the degree that is left. Assumes nothing.
-use Rattle.std.proofs.Common.{◌≡◌, ℕ, zero, suc, ◌<◌, ◌≤◌, Bool, true, false, cond, eqb, ltb, leb, List, length, sym, refl, ap, ◌∙◌, arith, ltb-false, ne_eqb, leb-false}
+use Rattle.std.proofs.Common.{◌≡◌, ℕ, zero, suc, ◌<◌, ◌≤◌, Bool, true, false, cond, eqb, ltb, leb, List, length, sym, refl, arith, ltb-false, ne_eqb, leb-false}
 use borrow.Author.Tests.{eqb-false}
 use lib.Ieee.{Float, le}
 use Rattle.laws.specs.Outcome.{when}

@@ -1,9 +1,7 @@
 -- Laws of poles and of locus points that a reader will look for. Assumes nothing.
 use Rattle.std.proofs.Common.{◌≡◌, ℕ, zero, suc, ◌+◌, ◌-◌, ◌<◌, ◌≤◌, min, Bool, true, false, cond, ◌||◌, eqb, List, [], ◌∷◌, length, get_or, take, replicate, sym, refl, ap, ◌∙◌, ⊎_elim, true≢false, arith, length-take, get_or-take, take_at, get_or-append-add, ne_eqb, eqb-true}
-use borrow.Author.Tests.{eqb-false}
 use lib.ListN.{get_or-replicate}
 use lib.Ieee.{Float, le, lt}
-use Rattle.laws.proofs.Loops.{length-up_to}
 use Rattle.scalar.specs.Scalar.{f0, f1}
 use Rattle.complex.specs.declared.Complex.{Complex}
 use Rattle.complex.specs.Complex.{from_real, magnitude_sq}
@@ -22,7 +20,7 @@ use Rattle.root_locus.specs.declared.ending.Ending.TheVariants.{Settled, Spent, 
 use Rattle.root_locus.specs.Gain.{gain_at}
 use Rattle.root_locus.specs.Polynomial.{loop_polynomial, counting, degree_of}
 use Rattle.root_locus.specs.Search.{tolerance, nowhere}
-use Rattle.root_locus.specs.Roots.{linear, discriminant, real_pair, complex_pair, quadratic, quotient_at, monic, searched, by_degree, ending_by_degree, padded}
+use Rattle.root_locus.specs.Roots.{linear, discriminant, real_pair, complex_pair, quadratic, searched, by_degree, ending_by_degree, padded}
 use Rattle.root_locus.specs.Stability.{outside, none_outside, stable}
 use Rattle.root_locus.specs.Locus.{locus_refusal, Point, point_of, found_point, no_point, point_at, locus_point_at}
 use Rattle.root_locus.proofs.Rounds.{search_long}
