@@ -84,19 +84,9 @@ module _ (tf : TransferFn) (k-max : Float) (n i : ℕ) where
   module _ (h : 0 ≡ locus_refusal tf.order k-max n i 0) where
     pub point_cubic : (e : FreqError) → Err e ≡ degree_cases left → point_of (Err e) ≡ locus_point_at tf k-max n i
     unfolding locus_point_at point_at point_of degree_cases
-    point_cubic e given = rw (passing tf.order k-max n i (sym h)).rest (go (eqb (degree_of left) 3) _ given)
-      where
-        go : (b : Bool) (r : Roots) → ◌≡◌ {A = Result Roots FreqError} (Err e) (cond b (Err CubicLeftOut) (Ok r)) → no_point (number_of e) ≡ cond (eqb (when b 12 0) 0) (found_point (gain_at k-max n i) left) (no_point (when b 12 0))
-        go true r g = let k : e ≡ CubicLeftOut = cc in rw k
-        go false r g = let k : ◌≡◌ {A = ℕ} 0 1 = cc in absurd (omega arith)
+    point_cubic e given = rw (passing tf.order k-max n i (sym h)).rest (grind (arith, given))
 
     pub point_let_through : (r : Roots) → Ok r ≡ degree_cases left
         → point_of (Ok (record { gain = gain_at k-max n i; poles = r.z; count = r.count; ending = r.ending })) ≡ locus_point_at tf k-max n i
     unfolding locus_point_at point_at point_of degree_cases found_point
-    point_let_through r given = rw (passing tf.order k-max n i (sym h)).rest (go (eqb (degree_of left) 3) given)
-      where
-        go : (b : Bool) → ◌≡◌ {A = Result Roots FreqError} (Ok r) (cond b (Err CubicLeftOut) (Ok (record { z = padded (by_degree left); count = length (by_degree left); ending = ending_by_degree left })))
-            → ◌≡◌ {A = Point} (record { number = 0; gain = gain_at k-max n i; count = r.count; poles = r.z; ending = r.ending })
-            (cond (eqb (when b 12 0) 0) (found_point (gain_at k-max n i) left) (no_point (when b 12 0)))
-        go true g = let k : ◌≡◌ {A = ℕ} 0 1 = cc in absurd (omega arith)
-        go false g = let k : r ≡ record { z = padded (by_degree left); count = length (by_degree left); ending = ending_by_degree left } = cc in rw k
+    point_let_through r given = rw (passing tf.order k-max n i (sym h)).rest (grind (arith, given))

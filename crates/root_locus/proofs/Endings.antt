@@ -35,11 +35,7 @@ nan_found (z ∷ zs) h = go (is_nan z.re) (is_nan z.im) refl refl h (nan_found z
 
 pub nan_seen : (zs : List Complex) (n : NanIn zs) → some_nan zs ≡ true
 unfolding some_nan
-nan_seen zs n = list_any_at (λ (z : Complex). is_nan z.re || is_nan z.im) zs n.j nowhere n.counted (⊎_elim (λ e. rw e) (λ e. either (is_nan (get_or zs n.j nowhere).re) e) n.part)
-  where
-    either : (a : Bool) {b : Bool} → b ≡ true → (a || b) ≡ true
-    either true e = refl
-    either false e = e
+nan_seen zs n = let at = list_any_at (λ (z : Complex). is_nan z.re || is_nan z.im) zs n.j nowhere n.counted in let part = n.part in grind (arith, at, part)
 
 settled_not_broken : {k : ℕ} → Settled k ≡ Broken → ⊥
 settled_not_broken h = let i : ◌≡◌ {A = ℕ} 0 1 = cc in absurd (omega arith)
@@ -112,11 +108,7 @@ ran norm (suc n) s = let t = further norm s in go (lt t.last tolerance) refl (ra
 -- what is not broken ends as its rounds or its formulas did
 unless_means : (zs : List Complex) (e f : Ending) → (f ≡ Broken → ⊥) → unless_nan zs e ≡ f → e ≡ f
 unfolding unless_nan
-unless_means zs e f h k = go (some_nan zs) k
-  where
-    go : (b : Bool) → cond b Broken e ≡ f → e ≡ f
-    go true k = absurd (h (sym k))
-    go false k = k
+unless_means zs e f h k = grind arith
 
 -- ---- the search of a polynomial
 module _ (p : List Float) where

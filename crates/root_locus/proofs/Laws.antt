@@ -87,11 +87,7 @@ module _ (tf : TransferFn) (k-max : Float) (n i : ℕ) where
 
   pub point_number : (locus_point_at tf k-max n i).number ≡ refusal
   unfolding locus_point_at point_at found_point no_point
-  point_number = go (eqb refusal 0) refl
-    where
-      go : (b : Bool) → eqb refusal 0 ≡ b → (cond b (found_point (gain_at k-max n i) left) (no_point refusal)).number ≡ refusal
-      go true e = sym (eqb-true refusal 0 e)
-      go false e = refl
+  point_number = grind (arith, eqb-true)
 
   -- one that is not turned away has the gain, the poles and how the search for them ended
   pub point_found : refusal ≡ 0 → locus_point_at tf k-max n i ≡ found_point (gain_at k-max n i) left

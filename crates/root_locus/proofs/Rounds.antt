@@ -77,11 +77,7 @@ rounds_done norm n s {k} inv h = let f : n - k ≡ zero = omega arith in rw f at
 module _ (norm : List Float) where
   move_long : (i : ℕ) (s : Round) → length (move_root norm i s).roots ≡ length s.roots
   unfolding move_root moved
-  move_long i s = go (small (differences (length norm) s.roots i)) (ratio (eval_poly norm (get_or s.roots i nowhere)) (differences (length norm) s.roots i))
-    where
-      go : (b : Bool) (u : Complex) → length (cond b s (moved i u s)).roots ≡ length s.roots
-      go true u = refl
-      go false u = length-set s.roots i _
+  move_long i s = grind (arith, length-set)
 
   moves_long : (n i : ℕ) (s : Round) → length (count_up (move_root norm) n i s).roots ≡ length s.roots
   unfolding count_up
@@ -95,21 +91,13 @@ module _ (norm : List Float) where
   pub run_long : (n : ℕ) (s : Run) → length (run norm n s).roots ≡ length s.roots
   unfolding run
   run_long zero s = refl
-  run_long (suc n) s = let t = further norm s in go (lt t.last tolerance) t (run_long n t) ∙ further_long s
-    where
-      go : (b : Bool) (t : Run) → length (run norm n t).roots ≡ length t.roots → length (cond b t (run norm n t)).roots ≡ length t.roots
-      go true t e = refl
-      go false t e = e
+  run_long (suc n) s = let next = run_long n (further norm s) in let here = further_long s in grind (arith, next, here)
 
 -- The roots that a run leaves are those of `rounds`.
 pub run_roots : (norm : List Float) (n : ℕ) (s : Run) → (run norm n s).roots ≡ rounds norm n s.roots
 unfolding run further rounds
 run_roots norm zero s = refl
-run_roots norm (suc n) s = go (lt (one_round norm s.roots).largest tolerance) (further norm s) (run_roots norm n (further norm s))
-  where
-    go : (b : Bool) (t : Run) → (run norm n t).roots ≡ rounds norm n t.roots → (cond b t (run norm n t)).roots ≡ cond b t.roots (rounds norm n t.roots)
-    go true t e = refl
-    go false t e = e
+run_roots norm (suc n) s = let next = run_roots norm n (further norm s) in grind (arith, next)
 
 -- ---- the search by its run
 module _ (p : List Float) where
