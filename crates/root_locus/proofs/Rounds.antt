@@ -1,12 +1,12 @@
 -- The steps of the root search as the program takes them: what it has computed is the definition's next state. Assumes nothing.
-use Rattle.std.proofs.Common.{◌≡◌, ℕ, zero, suc, ◌+◌, ◌-◌, ◌<◌, ◌≤◌, Bool, true, false, cond, List, ◌++◌, length, get_or, set, take, drop, take_at, add-one, drop-cons, refl, ◌∙◌, arith, eq-eqb, ne_eqb, length-set}
+use Rattle.std.proofs.Common.{◌≡◌, ℕ, zero, suc, ◌+◌, ◌-◌, ◌<◌, ◌≤◌, true, false, List, ◌++◌, length, get_or, set, take, drop, take_at, add-one, drop-cons, refl, ◌∙◌, arith, eq-eqb, ne_eqb, length-set}
 use lib.Ieee.{Float, nan, binary64, add, lt}
 use Rattle.laws.specs.Loops.{count_up, push_all}
 use Rattle.laws.specs.Choice.{greater}
 use Rattle.laws.proofs.Loops.{length-up_to}
 use Rattle.scalar.specs.Scalar.{f0, eps}
 use Rattle.complex.specs.declared.Complex.{Complex}
-use Rattle.complex.specs.Complex.{product, difference, magnitude_sq, magnitude_of, small, ratio, quotient_or_zero}
+use Rattle.complex.specs.Complex.{product, difference, magnitude_sq, magnitude_of, small, quotient_or_zero}
 use Rattle.root_locus.specs.Polynomial.{degree_of}
 use Rattle.root_locus.specs.StartingPoints.{starting_point, starting_points}
 use Rattle.root_locus.specs.Search.{tolerance, nowhere, horner, eval_poly, factor, differences, Round, moved, move_root, one_round, rounds, Run, begun, further, run}

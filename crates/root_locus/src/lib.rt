@@ -88,7 +88,7 @@ impl Roots {
     }
 }
 
-// Where a degree's pairs begin in the table.
+// Where a degree's pairs begin in the table: 4 + 5 + .. up to the degree below, written out, which is plainer than the sum.
 #[tactic(auto, unfolding(crate::specs::StartingPoints::first_point))]
 fn first_point(degree: usize) -> usize
     requires { degree ≤ 8 }
