@@ -35,36 +35,18 @@ nan_found (z ∷ zs) h = go (is_nan z.re) (is_nan z.im) refl refl h (nan_found z
 
 pub nan_seen : (zs : List Complex) (n : NanIn zs) → some_nan zs ≡ true
 unfolding some_nan
-nan_seen zs n = list_any_at (λ (z : Complex). is_nan z.re || is_nan z.im) zs n.j nowhere n.counted (⊎_elim (λ e. rw e) (λ e. either (is_nan (get_or zs n.j nowhere).re) e) n.part)
-  where
-    either : (a : Bool) {b : Bool} → b ≡ true → (a || b) ≡ true
-    either true e = refl
-    either false e = e
+nan_seen zs n = let at = list_any_at (λ (z : Complex). is_nan z.re || is_nan z.im) zs n.j nowhere n.counted in let part = n.part in grind (arith, at, part)
 
 settled_not_broken : {k : ℕ} → Settled k ≡ Broken → ⊥
-settled_not_broken h = let i : ◌≡◌ {A = ℕ} 0 1 = cc in absurd (omega arith)
+settled_not_broken h = grind arith
 
 spent_not_broken : {c : Float} → Spent c ≡ Broken → ⊥
-spent_not_broken h = let i : ◌≡◌ {A = ℕ} 0 1 = cc in absurd (omega arith)
-
-spent_not_settled : {c : Float} {k : ℕ} → Spent c ≡ Settled k → ⊥
-spent_not_settled h = let i : ◌≡◌ {A = ℕ} 0 1 = cc in absurd (omega arith)
-
-neither_broken : (b : Bool) {e f : Ending} → (e ≡ Broken → ⊥) → (f ≡ Broken → ⊥) → cond b e f ≡ Broken → ⊥
-neither_broken true h k i = h i
-neither_broken false h k i = k i
+spent_not_broken h = grind arith
 
 -- Broken exactly where some part of a pole is NaN. Rounds and formulas alone never end so.
 pub ending_broken : (p : List Float) → (ending_by_degree p ≡ Broken → NanIn (by_degree p)) × (NanIn (by_degree p) → ending_by_degree p ≡ Broken)
 unfolding ending_by_degree unless_nan search_end end_of
-ending_broken p = (
-  λ h. nan_found (by_degree p) (go (some_nan (by_degree p)) (neither_broken (ltb (degree_of p) 4) settled_not_broken (neither_broken (lt (search_run p).last tolerance) settled_not_broken spent_not_broken)) h),
-  λ n. rw (nan_seen (by_degree p) n),
-)
-  where
-    go : (b : Bool) {e : Ending} → (e ≡ Broken → ⊥) → cond b Broken e ≡ Broken → b ≡ true
-    go true k h = refl
-    go false k h = absurd (k h)
+ending_broken p = (λ h. nan_found (by_degree p) (grind arith), λ n. rw (nan_seen (by_degree p) n))
 
 -- ---- what up to n + 1 rounds from s on leave: m + 1 rounds ran, none before the last was below, and the last one was, or n + 1 had run
 pub record Ran (norm : List Float) (n : ℕ) (s r : Run) : Type 0 where
@@ -112,11 +94,7 @@ ran norm (suc n) s = let t = further norm s in go (lt t.last tolerance) refl (ra
 -- what is not broken ends as its rounds or its formulas did
 unless_means : (zs : List Complex) (e f : Ending) → (f ≡ Broken → ⊥) → unless_nan zs e ≡ f → e ≡ f
 unfolding unless_nan
-unless_means zs e f h k = go (some_nan zs) k
-  where
-    go : (b : Bool) → cond b Broken e ≡ f → e ≡ f
-    go true k = absurd (h (sym k))
-    go false k = k
+unless_means zs e f h k = grind arith
 
 -- ---- the search of a polynomial
 module _ (p : List Float) where
@@ -156,13 +134,12 @@ module _ (p : List Float) where
   -- Settled with 0 rounds exactly where no search is needed; else the search settled.
   pub ending_settled : {k : ℕ} → ending_by_degree p ≡ Settled k → ((degree_of p < 4) × (k ≡ 0)) ⊎ ((4 ≤ degree_of p) × SettledIn k)
   unfolding search_end end_of
-  ending_settled {k} h = go (ltb (degree_of p) 4) (lt (search_run p).last tolerance) refl refl spent_not_settled (ending_else settled_not_broken h)
+  ending_settled {k} h = go (ltb (degree_of p) 4) (lt (search_run p).last tolerance) refl refl (ending_else settled_not_broken h)
     where
-      go : (a b : Bool) {e : Ending} → ltb (degree_of p) 4 ≡ a → lt (search_run p).last tolerance ≡ b → (e ≡ Settled k → ⊥)
-          → cond a (Settled 0) (cond b (Settled (search_run p).used) e) ≡ Settled k
+      go : (a b : Bool) → ltb (degree_of p) 4 ≡ a → lt (search_run p).last tolerance ≡ b → cond a (Settled 0) (cond b (Settled (search_run p).used) (Spent (search_run p).last)) ≡ Settled k
           → ((degree_of p < 4) × (k ≡ 0)) ⊎ ((4 ≤ degree_of p) × SettledIn k)
-      go true b e f n h = let i : 0 ≡ k = cc in inl (ltb-true (degree_of p) 4 e, sym i)
-      go false true e f s h =
+      go true b e f h = let i : 0 ≡ k = cc in inl (ltb-true (degree_of p) 4 e, sym i)
+      go false true e f h =
           let i : (search_run p).used ≡ k = cc in
           let r = search_ran in
           let l : 4 ≤ degree_of p = ltb-false (degree_of p) 4 e in
@@ -178,7 +155,7 @@ module _ (p : List Float) where
               going = λ j q. r.going j (rw m at q);
             },
           )
-      go false false e f n h = absurd (n h)
+      go false false e f h = grind arith
 
   -- Spent: none of 200 rounds of the search was below the tolerance, and so neither is the change that is told.
   pub ending_spent : {c : Float} → ending_by_degree p ≡ Spent c → (4 ≤ degree_of p) × SpentWith c
@@ -187,8 +164,8 @@ module _ (p : List Float) where
     where
       go : (a b : Bool) → ltb (degree_of p) 4 ≡ a → lt (search_run p).last tolerance ≡ b → cond a (Settled 0) (cond b (Settled (search_run p).used) (Spent (search_run p).last)) ≡ Spent c
           → (4 ≤ degree_of p) × SpentWith c
-      go true b e f h = let i : ◌≡◌ {A = ℕ} 0 1 = cc in absurd (omega arith)
-      go false true e f h = let i : ◌≡◌ {A = ℕ} 0 1 = cc in absurd (omega arith)
+      go true b e f h = grind arith
+      go false true e f h = grind arith
       go false false e f h =
           let i : (search_run p).last ≡ c = cc in
           let r = search_ran in

@@ -1,9 +1,7 @@
 -- Laws of poles and of locus points that a reader will look for. Assumes nothing.
-use Rattle.std.proofs.Common.{◌≡◌, ℕ, zero, suc, ◌+◌, ◌-◌, ◌<◌, ◌≤◌, min, Bool, true, false, cond, ◌||◌, eqb, List, [], ◌∷◌, length, get_or, take, replicate, sym, refl, ap, ◌∙◌, ⊎_elim, true≢false, arith, length-take, get_or-take, take_at, get_or-append-add, ne_eqb, eqb-true}
-use borrow.Author.Tests.{eqb-false}
+use Rattle.std.proofs.Common.{◌≡◌, ℕ, zero, suc, ◌+◌, ◌-◌, ◌<◌, ◌≤◌, min, Bool, true, false, ◌||◌, List, [], ◌∷◌, length, get_or, take, replicate, sym, refl, ap, ◌∙◌, ⊎_elim, true≢false, arith, length-take, get_or-take, take_at, get_or-append-add, ne_eqb, eqb-true}
 use lib.ListN.{get_or-replicate}
 use lib.Ieee.{Float, le, lt}
-use Rattle.laws.proofs.Loops.{length-up_to}
 use Rattle.scalar.specs.Scalar.{f0, f1}
 use Rattle.complex.specs.declared.Complex.{Complex}
 use Rattle.complex.specs.Complex.{from_real, magnitude_sq}
@@ -17,12 +15,11 @@ use Rattle.sweep.proofs.Numbers.{number_known}
 use Rattle.sweep.proofs.Answers.{not_zero}
 use Rattle.transfer_fn.specs.declared.TransferFn.{TransferFn}
 use Rattle.root_locus.specs.declared.LocusPoint.{LocusPoint}
-use Rattle.root_locus.specs.declared.ending.Ending.{Ending}
 use Rattle.root_locus.specs.declared.ending.Ending.TheVariants.{Settled, Spent, Broken}
 use Rattle.root_locus.specs.Gain.{gain_at}
 use Rattle.root_locus.specs.Polynomial.{loop_polynomial, counting, degree_of}
 use Rattle.root_locus.specs.Search.{tolerance, nowhere}
-use Rattle.root_locus.specs.Roots.{linear, discriminant, real_pair, complex_pair, quadratic, quotient_at, monic, searched, by_degree, ending_by_degree, padded}
+use Rattle.root_locus.specs.Roots.{linear, real_pair, complex_pair, quadratic, searched, by_degree, ending_by_degree, padded}
 use Rattle.root_locus.specs.Stability.{outside, none_outside, stable}
 use Rattle.root_locus.specs.Locus.{locus_refusal, Point, point_of, found_point, no_point, point_at, locus_point_at}
 use Rattle.root_locus.proofs.Rounds.{search_long}
@@ -68,11 +65,7 @@ unfolding by_degree
 pole_count [] h = refl
 pole_count (c ∷ []) h = refl
 pole_count (c ∷ d ∷ []) h = unfold linear in refl
-pole_count (c0 ∷ c1 ∷ c2 ∷ []) h = unfold quadratic real_pair complex_pair in two (le f0 (discriminant c0 c1 c2)) _ _ _ _
-  where
-    two : (b : Bool) (u v x y : Complex) → length (cond b (u ∷ v ∷ []) (x ∷ y ∷ [])) ≡ 2
-    two true u v x y = refl
-    two false u v x y = refl
+pole_count (c0 ∷ c1 ∷ c2 ∷ []) h = unfold quadratic real_pair complex_pair in grind arith
 pole_count (c ∷ d ∷ e ∷ f ∷ []) h = absurd (h refl)
 pole_count (c ∷ d ∷ e ∷ f ∷ g ∷ p) h = found (c ∷ d ∷ e ∷ f ∷ g ∷ p)
   where
@@ -89,11 +82,7 @@ module _ (tf : TransferFn) (k-max : Float) (n i : ℕ) where
 
   pub point_number : (locus_point_at tf k-max n i).number ≡ refusal
   unfolding locus_point_at point_at found_point no_point
-  point_number = go (eqb refusal 0) refl
-    where
-      go : (b : Bool) → eqb refusal 0 ≡ b → (cond b (found_point (gain_at k-max n i) left) (no_point refusal)).number ≡ refusal
-      go true e = sym (eqb-true refusal 0 e)
-      go false e = refl
+  point_number = grind (arith, eqb-true)
 
   -- one that is not turned away has the gain, the poles and how the search for them ended
   pub point_found : refusal ≡ 0 → locus_point_at tf k-max n i ≡ found_point (gain_at k-max n i) left
@@ -151,13 +140,7 @@ point_known (Ok p) (Ok q) h =
     let c : p.poles ≡ q.poles = ap (λ (o : Point). o.poles) h in
     let d : p.count ≡ q.count = ap (λ (o : Point). o.count) h in
     let e : p.ending ≡ q.ending = ap (λ (o : Point). o.ending) h in
-    made b c d e
-  where
-    of : Float → List Complex → ℕ → Ending → Result LocusPoint FreqError
-    of b c d e = Ok (record { gain = b; poles = c; count = d; ending = e })
-
-    made : {b b' : Float} {c c' : List Complex} {d d' : ℕ} {e e' : Ending} → b ≡ b' → c ≡ c' → d ≡ d' → e ≡ e' → of b c d e ≡ of b' c' d' e'
-    made g h i j = rw (g, h, i, j)
+    grind (arith, b, c, d, e)
 point_known (Ok p) (Err e) h = let n : 0 ≡ number_of e = ap (λ (o : Point). o.number) h in absurd (not_zero e (sym n))
 point_known (Err e) (Ok q) h = let n : number_of e ≡ 0 = ap (λ (o : Point). o.number) h in absurd (not_zero e n)
 point_known (Err e) (Err f) h = ap Err (number_known e f (ap (λ (o : Point). o.number) h))

@@ -1,5 +1,5 @@
 -- Roots in an array of eight, whose places past the roots hold (0, 0). Assumes nothing.
-use Rattle.std.proofs.Common.{◌≡◌, ℕ, zero, suc, ◌+◌, ◌-◌, List, ◌++◌, length, drop, take, replicate, refl, arith, take_at}
+use Rattle.std.proofs.Common.{◌≡◌, ℕ, ◌-◌, List, ◌++◌, length, drop, take, replicate, take_at}
 use Rattle.std.proofs.lemmas.List.{drop-replicate}
 use Rattle.laws.specs.Loops.{up_to, filled}
 use Rattle.laws.proofs.Loops.{length-up_to}

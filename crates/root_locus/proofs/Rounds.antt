@@ -1,12 +1,12 @@
 -- The steps of the root search as the program takes them: what it has computed is the definition's next state. Assumes nothing.
-use Rattle.std.proofs.Common.{◌≡◌, ℕ, zero, suc, ◌+◌, ◌-◌, ◌<◌, ◌≤◌, Bool, true, false, cond, List, ◌++◌, length, get_or, set, take, drop, take_at, add-one, drop-cons, refl, ◌∙◌, arith, eq-eqb, ne_eqb, length-set}
+use Rattle.std.proofs.Common.{◌≡◌, ℕ, zero, suc, ◌+◌, ◌-◌, ◌<◌, ◌≤◌, true, false, List, ◌++◌, length, get_or, set, take, drop, take_at, add-one, drop-cons, refl, ◌∙◌, arith, eq-eqb, ne_eqb, length-set}
 use lib.Ieee.{Float, nan, binary64, add, lt}
 use Rattle.laws.specs.Loops.{count_up, push_all}
 use Rattle.laws.specs.Choice.{greater}
 use Rattle.laws.proofs.Loops.{length-up_to}
 use Rattle.scalar.specs.Scalar.{f0, eps}
 use Rattle.complex.specs.declared.Complex.{Complex}
-use Rattle.complex.specs.Complex.{product, difference, magnitude_sq, magnitude_of, small, ratio, quotient_or_zero}
+use Rattle.complex.specs.Complex.{product, difference, magnitude_sq, magnitude_of, small, quotient_or_zero}
 use Rattle.root_locus.specs.Polynomial.{degree_of}
 use Rattle.root_locus.specs.StartingPoints.{starting_point, starting_points}
 use Rattle.root_locus.specs.Search.{tolerance, nowhere, horner, eval_poly, factor, differences, Round, moved, move_root, one_round, rounds, Run, begun, further, run}
@@ -77,11 +77,7 @@ rounds_done norm n s {k} inv h = let f : n - k ≡ zero = omega arith in rw f at
 module _ (norm : List Float) where
   move_long : (i : ℕ) (s : Round) → length (move_root norm i s).roots ≡ length s.roots
   unfolding move_root moved
-  move_long i s = go (small (differences (length norm) s.roots i)) (ratio (eval_poly norm (get_or s.roots i nowhere)) (differences (length norm) s.roots i))
-    where
-      go : (b : Bool) (u : Complex) → length (cond b s (moved i u s)).roots ≡ length s.roots
-      go true u = refl
-      go false u = length-set s.roots i _
+  move_long i s = grind (arith, length-set)
 
   moves_long : (n i : ℕ) (s : Round) → length (count_up (move_root norm) n i s).roots ≡ length s.roots
   unfolding count_up
@@ -95,21 +91,13 @@ module _ (norm : List Float) where
   pub run_long : (n : ℕ) (s : Run) → length (run norm n s).roots ≡ length s.roots
   unfolding run
   run_long zero s = refl
-  run_long (suc n) s = let t = further norm s in go (lt t.last tolerance) t (run_long n t) ∙ further_long s
-    where
-      go : (b : Bool) (t : Run) → length (run norm n t).roots ≡ length t.roots → length (cond b t (run norm n t)).roots ≡ length t.roots
-      go true t e = refl
-      go false t e = e
+  run_long (suc n) s = let next = run_long n (further norm s) in let here = further_long s in grind (arith, next, here)
 
 -- The roots that a run leaves are those of `rounds`.
 pub run_roots : (norm : List Float) (n : ℕ) (s : Run) → (run norm n s).roots ≡ rounds norm n s.roots
 unfolding run further rounds
 run_roots norm zero s = refl
-run_roots norm (suc n) s = go (lt (one_round norm s.roots).largest tolerance) (further norm s) (run_roots norm n (further norm s))
-  where
-    go : (b : Bool) (t : Run) → (run norm n t).roots ≡ rounds norm n t.roots → (cond b t (run norm n t)).roots ≡ cond b t.roots (rounds norm n t.roots)
-    go true t e = refl
-    go false t e = e
+run_roots norm (suc n) s = let next = run_roots norm n (further norm s) in grind (arith, next)
 
 -- ---- the search by its run
 module _ (p : List Float) where

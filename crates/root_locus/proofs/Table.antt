@@ -1,5 +1,5 @@
 -- The rule of the table of starting points, by one test that is computed over the whole table. Assumes nothing.
-use Rattle.std.proofs.Common.{◌≡◌, ℕ, ◌+◌, ◌^◌, ◌<◌, ◌≤◌, Bool, true, false, cond, ◌&&◌, T, eqb, leb, List, [], get_or, refl, arith, leb→le, eqb-true}
+use Rattle.std.proofs.Common.{ℕ, ◌+◌, ◌^◌, ◌<◌, ◌≤◌, Bool, ◌&&◌, T, leb, List, [], get_or, arith, leb→le}
 use lib.Ieee.{Float, of_bits}
 use lib.Ieee.Fits.{and_l, and_r}
 use lib.Ieee.Scale.{finite}
@@ -43,14 +43,7 @@ near_unit k h = near_means (as_complex (get_or start_table k [])) (every_at (λ 
 -- a degree's pairs lie in the table
 first_fits : (d : ℕ) → d ≤ 8 → first_point d + d ≤ 30
 unfolding first_point
-first_fits d h = go (eqb d 8) (eqb d 7) (eqb d 6) (eqb d 5) refl refl refl refl
-  where
-    go : (a b c e : Bool) → eqb d 8 ≡ a → eqb d 7 ≡ b → eqb d 6 ≡ c → eqb d 5 ≡ e → cond a 22 (cond b 15 (cond c 9 (cond e 4 0))) + d ≤ 30
-    go true b c e p q r s = let k : d ≡ 8 = eqb-true d 8 p in omega arith
-    go false true c e p q r s = let k : d ≡ 7 = eqb-true d 7 q in omega arith
-    go false false true e p q r s = let k : d ≡ 6 = eqb-true d 6 r in omega arith
-    go false false false true p q r s = let k : d ≡ 5 = eqb-true d 5 s in omega arith
-    go false false false false p q r s = omega arith
+first_fits d h = grind arith
 
 -- so does every point from which a search starts
 pub starts_near_unit : (d i : ℕ) → d ≤ 8 → i < d → NearUnit (starting_point d i)

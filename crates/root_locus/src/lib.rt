@@ -88,7 +88,7 @@ impl Roots {
     }
 }
 
-// Where a degree's pairs begin in the table.
+// Where a degree's pairs begin in the table: 4 + 5 + .. up to the degree below, written out, which is plainer than the sum.
 #[tactic(auto, unfolding(crate::specs::StartingPoints::first_point))]
 fn first_point(degree: usize) -> usize
     requires { degree ≤ 8 }
@@ -243,7 +243,7 @@ impl Polynomial<'_> {
         }
     }
 
-    // Its roots. Leading coefficients that are too small to count are dropped.
+    // Its roots. Leading coefficients that are too small to count are dropped; a NaN counts.
     fn find_roots(self) -> Result<Roots, FreqError>
         ensures { result ≡ degree_cases (counting self.entry.coeffs.now) }
     {
@@ -297,8 +297,7 @@ impl OpenLoop {
     }
 }
 
-// Whether no counted pole lies on or outside the unit circle. (Poles come as an array with a count, since the C interface
-// hands them on so; likewise in a locus point.)
+// Whether no counted pole lies on or outside the unit circle. (Poles come as in a locus point.)
 pub fn stability_region(poles: [Complex; 8], count: usize) -> bool
     ensures { result ≡ stable poles count }
 {
@@ -306,7 +305,7 @@ pub fn stability_region(poles: [Complex; 8], count: usize) -> bool
 }
 
 // A point of the root locus: the gain and so many poles, with (0, 0) in the places past them, and how the search for
-// them ended.
+// them ended. (The poles are an array with a count, since the C interface hands them on so.)
 #[derive(Clone, Copy)]
 pub struct LocusPoint {
     pub gain: f64,
@@ -315,8 +314,8 @@ pub struct LocusPoint {
     pub ending: Ending,
 }
 
-// The conditions of a locus point but for the last one, on the degree that is left, which a degree of 0 passes. (The
-// first two are a grid's; its next one comes here after those on the order, so that its check is no part of this one.)
+// The conditions of a locus point but for the last one, on the degree that is left, which a degree of 0 passes. (A grid's
+// check is no part of them: its first two stand here too, but its third comes after those on the order.)
 #[tactic(auto, unfolding(crate::specs::Locus::locus_refusal))]
 fn check_locus(order: usize, k_max: f64, n: usize, i: usize) -> Result<(), FreqError>
     ensures { refusal_of result ≡ locus_refusal order k_max n i 0 }

@@ -1,7 +1,6 @@
-use Rattle.std.proofs.Common.{◌≡◌, ◌∷◌, length, take, refl, ◌∙◌, arith, rules}
-use native.Mathlib.Numerals.{unary_clauses}
+use Rattle.std.proofs.Common.{◌≡◌, ◌∷◌, length, take, ◌∙◌, arith, rules}
 use Rattle.laws.specs.Loops.{filled}
-use Rattle.laws.proofs.Loops.{filled_none, filled_more, take-filled, arrived}
+use Rattle.laws.proofs.Loops.{take-filled, arrived}
 use Rattle.root_locus.specs.Polynomial.{degree_of}
 use Rattle.root_locus.specs.Roots.{quotient_at, monic}
 use Rattle.root_locus.proofs.Padding.{take_padded}

@@ -1,7 +1,7 @@
-use Rattle.std.proofs.Common.{◌≡◌, refl, ap, ◌∙◌}
-use Rattle.laws.proofs.Loops.{up_begin, up_next, up_end}
-use Rattle.root_locus.specs.Search.{differences, one_round, Run, begun, run}
-use Rattle.root_locus.proofs.Rounds.{factor_taken, factor_left, raised, kept, root_skipped, root_moved, round_more, round_last, rounds_done}
+use Rattle.std.proofs.Common.{◌≡◌, ap, ◌∙◌}
+use Rattle.laws.proofs.Loops.{up_next, up_end}
+use Rattle.root_locus.specs.Search.{Run, begun, run}
+use Rattle.root_locus.proofs.Rounds.{factor_taken, factor_left, raised, kept, root_moved, round_last, rounds_done}
 use Rattle.root_locus.proofs.durand_kerner.Goals as goal
 use Rattle.root_locus.proofs.durand_kerner.Goals.{then-j-i, else-j-i, then-change-max_change, else-change-max_change, else-rounds-test, then-rounds-test+else-roots-test+then-max_change}
 

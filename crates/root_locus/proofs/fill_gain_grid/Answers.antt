@@ -1,4 +1,4 @@
-use Rattle.std.proofs.Common.{arith, rules}
+use Rattle.std.proofs.Common.{arith}
 use Rattle.sweep.proofs.Grids.{fill_more}
 use Rattle.root_locus.proofs.Gains.{gains_refused, gains_begun, gains_filled}
 use Rattle.root_locus.proofs.fill_gain_grid.Goals as goal

@@ -1,6 +1,5 @@
-use Rattle.std.proofs.Common.{◌||◌, ◌≡◌, rules}
+use Rattle.std.proofs.Common.{◌||◌, rules}
 use Rattle.std.specs.Prelude.{is_nan}
-use Rattle.std.specs.List.{list_any}
 use Rattle.std.proofs.lemmas.Iterator.{YieldsList-from_slice}
 use Rattle.std.proofs.lemmas.Iterator.Search.{any_from_yields_List}
 use borrow.Author.Tests.{tests}
