@@ -1,16 +1,13 @@
 -- What the bit pattern of a value above 0 dB is. Assumes nothing.
 use Prim.Native.Nat.{ℕ, ◌^◌, ◌<◌}
-use mathlib.Core.Path.{◌≡◌, refl, sym}
-use mathlib.Core.Bool.{Bool, true, false, true≢false, ◌&&◌}
+use mathlib.Core.Path.{◌≡◌}
+use mathlib.Core.Bool.{true}
 use borrow.Author.Tests.{ltb-true}
 use lib.Dec.{ltb}
-use Rattle.bode.specs.declared.Crossover.TheVariants.{Gain}
+use Rattle.sweep.proofs.Conditions.{both_true}
+use Rattle.bode.specs.Bode.{Gain}
 use Rattle.panel.specs.Scanning.{lies_on}
 use Rattle.panel.specs.declared.Side.TheVariants.{Above}
-
-both_true : (p q : Bool) → (p && q) ≡ true → (p ≡ true) × (q ≡ true)
-both_true true q h = (refl, h)
-both_true false q h = absurd (true≢false (sym h))
 
 pub above_told : (n : ℕ) → lies_on Gain Above n ≡ true → (0 < n) × (n < 2 ^ 63)
 above_told n h =

@@ -1,5 +1,6 @@
 mod Above
 pub mod Sides
+pub mod Within
 pub mod Decoded
 pub mod Scanning
 pub mod Replies

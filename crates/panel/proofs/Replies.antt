@@ -1,21 +1,21 @@
--- What conditions that are passed mean, and a reply under another name of its outcome. Assumes nothing.
-use Prim.Native.Nat.{ℕ, ◌≤◌, ◌/◌, ◌%◌}
-use mathlib.Core.Path.{◌≡◌, subst}
-use mathlib.Core.Bool.{not}
-use mathlib.Core.List.{List}
-use native.Mathlib.Omega.{arith}
-use borrow.Author.Tests.{eqb-true, ltb-false, not-false}
-use lib.Dec.{eqb, ltb}
+-- The reply to each answer: a value is written, and its number is 0; else the bytes stay. Assumes nothing.
+use Rattle.std.proofs.Common.{ℕ, ◌≡◌, ◌≤◌, refl, ◌∙◌, List, length, Option, Some, None, Ok, Err, Float}
 use Rattle.laws.specs.Outcome.{Outcome}
-use Rattle.laws.proofs.Outcome.{when_passed}
-use Rattle.panel.specs.Panel.{panel_refusal, Replies}
+use Rattle.wire.specs.Bytes.{f64_bytes, overwritten}
+use Rattle.wire.proofs.Bytes.{overwritten_is}
+use Rattle.sweep.specs.Answer.{outcome_of, crossing_outcome}
+use Rattle.sweep.specs.Refusal.{number_of}
+use Rattle.sweep.specs.declared.FreqError.{FreqError}
+use Rattle.panel.specs.Panel.{Replies}
 
-pub passed : (n room : ℕ) → panel_refusal n room ≡ 0 → (n % 24 ≡ 0) × (8 ≤ room)
-unfolding panel_refusal
-passed n room h =
-    let odd = when_passed (not (eqb (n % 24) 0)) 19 (omega arith) h in
-    let many = when_passed (ltb 4096 (n / 24)) 15 (omega arith) odd.1 in
-    (eqb-true (n % 24) 0 (not-false (eqb (n % 24) 0) odd.0), ltb-false room 8 (when_passed (ltb room 8) 14 (omega arith) many.1).0)
+pub value_written : {o : Outcome} {before after : List ℕ} (c : Option Float) (x : Float) → outcome_of (Ok c) ≡ o → c ≡ Some x → 8 ≤ length before → after ≡ overwritten (f64_bytes x) before → Replies o 0 before after
+unfolding outcome_of crossing_outcome f64_bytes
+value_written {before = before} c x e f room h = rw (← e, f) (record { number = refl; bytes = h ∙ overwritten_is 8 _ before room })
 
-pub replies_as : {o p : Outcome} {r : ℕ} {before after : List ℕ} → o ≡ p → Replies o r before after → Replies p r before after
-replies_as {r = r} {before = before} {after = after} e h = subst (λ (o : Outcome). Replies o r before after) e h
+pub none_told : {o : Outcome} {before : List ℕ} (c : Option Float) → outcome_of (Ok c) ≡ o → c ≡ None → Replies o 100 before before
+unfolding outcome_of crossing_outcome
+none_told c e f = rw (← e, f) (record { number = refl; bytes = refl })
+
+pub refusal_told : {o : Outcome} {before : List ℕ} (e : FreqError) {r : ℕ} → outcome_of (Err e) ≡ o → r ≡ number_of e → Replies o r before before
+unfolding outcome_of
+refusal_told e h n = rw (← h) (record { number = n; bytes = refl })

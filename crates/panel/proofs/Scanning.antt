@@ -1,89 +1,67 @@
--- The scan that goes by places of bytes: at the value of reading k it is at 24 * k + place_of which. Assumes nothing.
-use Prim.Native.Nat.{ℕ, zero, ◌+◌, ◌*◌, ◌-◌, ◌/◌, ◌%◌, ◌^◌, ◌<◌, ◌≤◌}
-use mathlib.Core.Path.{◌≡◌, sym}
-use mathlib.Core.Bool.{Bool, true, false}
-use mathlib.Core.List.{List}
-use native.Mathlib.Omega.{arith}
-use lib.ListN.{length}
+-- The scan from pair to pair that passes over neighbours on one side. Assumes nothing.
+use Rattle.std.proofs.Common.{ℕ, ◌≡◌, ◌+◌, ◌*◌, ◌-◌, ◌/◌, ◌^◌, ◌<◌, refl, ap, ◌∙◌, Bool, true, false, List, length, get_or, drop, None, arith}
+use Rattle.std.specs.Float.{nan}
+use mathlib.Core.Bool.{true≢false}
+use mathlib.Core.Path.{sym, subst}
 use Rattle.wire.specs.Bytes.{u64_at, f64_at}
-use Rattle.sweep.specs.Scan.{crosses_by, first_where}
-use Rattle.sweep.proofs.Search.{search_next, search_hit, search_end_lem}
-use Rattle.bode.specs.Bode.{sought_of}
-use Rattle.bode.specs.declared.Crossover.{Crossover}
-use Rattle.bode.specs.declared.Crossover.TheVariants.{Gain, Phase}
-use Rattle.panel.specs.Scanning.{place_of, cross_at, first_of, lies_on, side_of, Scanning}
+use Rattle.sweep.specs.Scan.{first_pair, cross_if}
+use Rattle.sweep.proofs.Scans.{pair_next}
+use Rattle.bode.specs.Bode.{reading, Crossover, Gain, Phase, value_of, crosses_of, between_of, pair_of}
+use Rattle.bode.proofs.Crossovers.{pair_is}
+use Rattle.panel.specs.Panel.{reading_at, decoded}
+use Rattle.panel.specs.Scanning.{place_of, lies_on, side_of}
 use Rattle.panel.specs.declared.Side.{Side}
+use Rattle.panel.specs.declared.Side.TheVariants.{Neither}
 use Rattle.panel.proofs.Sides.{one_side_quiet, own_side}
+use Rattle.panel.proofs.Decoded.{decoded_length, decoded_at}
 
--- A run on a side: where any value lies on it, the one at a place does.
-pub record Aside (which : Crossover) (side : Side) (b : List ℕ) (at : ℕ) : Type 0 where
-  pub small : u64_at b at < 2 ^ 64
-  pub own : (x : ℕ) → lies_on which side x ≡ true → lies_on which side (u64_at b at) ≡ true
+-- the bit pattern of the value that tells, in reading k
+abbrev pub pattern_at : Crossover → List ℕ → ℕ → ℕ
+pattern_at which b k = u64_at b (24 * k + place_of which)
 
-inside : (which : Crossover) → place_of which + 8 ≤ 24
-inside Gain = omega arith
-inside Phase = omega arith
+-- A run on a side: where any value lies on it, that of reading k does.
+pub record Aside (which : Crossover) (side : Side) (b : List ℕ) (k : ℕ) : Type 0 where
+  pub own : (x : ℕ) → lies_on which side x ≡ true → (lies_on which side (pattern_at which b k) ≡ true) × (pattern_at which b k < 2 ^ 64)
+
+-- the value of a reading in which a crossover is sought, by its place in the bytes
+pub value_told : (which : Crossover) (b : List ℕ) (k : ℕ) → value_of which (reading_at b k) ≡ f64_at b (24 * k + place_of which)
+unfolding reading_at
+value_told Gain b k = refl
+value_told Phase b k = refl
+
+-- no value lies on the third side
+pub nowhere : (which : Crossover) (b : List ℕ) (k : ℕ) → Aside which Neither b k
+nowhere Gain b k = record { own = λ x h. absurd (true≢false (sym h)) }
+nowhere Phase b k = record { own = λ x h. absurd (true≢false (sym h)) }
 
 module _ (which : Crossover) (b : List ℕ) where
-  -- fewer than two readings
-  pub few : length b < 48 → 0 ≡ first_of which b
-  unfolding first_of first_where
-  few h = let e : length b / 24 - 1 ≡ zero = omega arith in rw e
+  -- two readings whose values lie on one side
+  quiet : (j k : ℕ) (side : Side) → Aside which side b j → lies_on which side (pattern_at which b k) ≡ true → pattern_at which b k < 2 ^ 64
+      → pair_of which (reading_at b j) (reading_at b k) ≡ None
+  unfolding f64_at
+  quiet j k side a h f =
+      let here = a.own _ h in
+      let c : crosses_of which (reading_at b j) (reading_at b k) ≡ false =
+      rw (value_told which b j, value_told which b k) (one_side_quiet which side _ _ here.1 f here.0 h) in
+      pair_is which (reading_at b j) (reading_at b k) ∙ ap (λ (t : Bool). cross_if t (between_of which (reading_at b j) (reading_at b k))) c
 
-  pub scanning : length b % 24 ≡ 0 → 48 ≤ length b → Scanning which b (place_of which)
-  unfolding first_of
-  scanning w h =
-      let p = inside which in
-      let e : place_of which / 24 ≡ 0 = omega arith in
-      let f : length b / 24 - 1 - 0 ≡ length b / 24 - 1 = omega arith in
-      record { whole = w; on = omega arith; there = omega arith; left = rw (e, f) }
+  -- a value on the run's side: its reading crosses with none before it, and the run goes on
+  pub quiet_next : {i : ℕ} → 0 < i → i < length b / 24 → (side : Side) {v : ℕ} → Aside which side b (i - 1) → v ≡ pattern_at which b i → v < 2 ^ 64 → lies_on which side v ≡ true
+      → first_pair (pair_of which) (drop (i - 1) (decoded b)) ≡ first_pair (pair_of which) (drop (i + 1 - 1) (decoded b))
+  quiet_next {i} h fits side a ev f k =
+      let other = reading nan nan nan in
+      let n = decoded_length b in
+      let none : pair_of which (get_or (decoded b) (i - 1) other) (get_or (decoded b) i other) ≡ None =
+      rw (decoded_at b (i - 1) other (omega arith), decoded_at b i other fits) (quiet (i - 1) i side a (rw ev at k) (rw ev at f)) in
+      pair_next (pair_of which) other (decoded b) h (omega arith) none
 
-  module _ {at : ℕ} (s : Scanning which b at) where
-    -- whether the reading and the one behind it cross
-    crossed : {t : Bool} → crosses_by (sought_of which) (f64_at b at) (f64_at b (at + 24)) ≡ t → cross_at which b (at / 24) ≡ t
-    unfolding cross_at
-    crossed h =
-        let on = s.on in
-        let here : 24 * (at / 24) + place_of which ≡ at = sym on in
-        let next : 24 * (at / 24 + 1) + place_of which ≡ at + 24 = omega arith in
-        rw (here, next) h
+  pub run_on : (i : ℕ) (side : Side) {v : ℕ} → v ≡ pattern_at which b i → v < 2 ^ 64 → lies_on which side v ≡ true → Aside which side b (i + 1 - 1)
+  run_on i side ev f k =
+      let e : i + 1 - 1 ≡ i = omega arith in
+      rw e (record { own = λ x l. (rw ev at k, rw ev at f) })
 
-    pub scan_end : length b - 8 < at + 24 → at / 24 ≡ first_of which b
-    scan_end h =
-        let p = inside which in
-        let on = s.on in
-        let w = s.whole in
-        search_end_lem (cross_at which b) (length b / 24 - 1) s.left (omega arith)
-
-    module _ (more : at + 24 ≤ length b - 8) where
-      pub scan_hit : crosses_by (sought_of which) (f64_at b at) (f64_at b (at + 24)) ≡ true → at / 24 ≡ first_of which b
-      scan_hit h =
-          let on = s.on in
-          search_hit (cross_at which b) (length b / 24 - 1) s.left (omega arith) (crossed h)
-
-      pub scan_next : crosses_by (sought_of which) (f64_at b at) (f64_at b (at + 24)) ≡ false → Scanning which b (at + 24)
-      scan_next h =
-          let on = s.on in
-          let q : (at + 24) / 24 ≡ at / 24 + 1 = omega arith in
-          record {
-            whole = s.whole;
-            on = omega arith;
-            there = omega arith;
-            left = rw q (search_next (cross_at which b) (length b / 24 - 1) s.left (omega arith) (crossed h));
-          }
-
-      -- both lie on one side
-      pub scan_on : (side : Side) {v : ℕ} → Aside which side b at → v ≡ u64_at b (at + 24) → v < 2 ^ 64 → lies_on which side v ≡ true
-          → Scanning which b (at + 24) × Aside which side b (at + 24)
-      unfolding f64_at
-      scan_on side {v} a ev f h =
-          let lies : lies_on which side (u64_at b (at + 24)) ≡ true = rw ev at h in
-          let small : u64_at b (at + 24) < 2 ^ 64 = rw ev at f in (
-            scan_next (one_side_quiet which side (u64_at b at) (u64_at b (at + 24)) a.small small (a.own v h) lies),
-            record { small = small; own = λ x k. lies },
-          )
-
-    -- the side of the value
-    pub aside : {side : Side} {v : ℕ} → v ≡ u64_at b at → v < 2 ^ 64 → side ≡ side_of which v → Aside which side b at
-    aside {side} {v} ev f e =
-        record { small = rw ev at f; own = λ x h. rw (e, ← ev) (own_side which v x (rw e at h)) }
+  -- another value begins a run
+  pub run_begins : (i : ℕ) {v : ℕ} → v ≡ pattern_at which b i → v < 2 ^ 64 → Aside which (side_of which v) b (i + 1 - 1)
+  run_begins i {v} ev f =
+      let e : i + 1 - 1 ≡ i = omega arith in
+      rw e (record { own = λ x l. (subst (λ (z : ℕ). lies_on which (side_of which v) z ≡ true) ev (own_side which v x l), rw ev at f) })

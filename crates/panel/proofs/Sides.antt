@@ -13,11 +13,8 @@ use lib.Ieee.Fits.{and_i, down_pos}
 use lib.Ieee.Positive.{first_pos}
 use Rattle.laws.proofs.Signs.{same, either}
 use Rattle.scalar.proofs.Patterns.{of_bits_is}
-use Rattle.sweep.specs.Scan.{crosses_by}
 use Rattle.sweep.proofs.Sides.{beside, one_side}
-use Rattle.bode.specs.Bode.{f180, sought_of}
-use Rattle.bode.specs.declared.Crossover.{Crossover}
-use Rattle.bode.specs.declared.Crossover.TheVariants.{Gain, Phase}
+use Rattle.bode.specs.Bode.{f180, Crossover, Gain, Phase, cross_of}
 use Rattle.panel.specs.Scanning.{lies_on, side_of}
 use Rattle.panel.specs.declared.Side.{Side}
 use Rattle.panel.specs.declared.Side.TheVariants.{Above, Below, Neither}
@@ -60,7 +57,7 @@ below_beside n fits h =
 -- ---- of either
 
 pub one_side_quiet : (which : Crossover) (side : Side) (a b : ℕ) → a < 2 ^ 64 → b < 2 ^ 64 → lies_on which side a ≡ true → lies_on which side b ≡ true
-    → crosses_by (sought_of which) (of_bits binary64 a) (of_bits binary64 b) ≡ false
+    → cross_of which (of_bits binary64 a) (of_bits binary64 b) ≡ false
 one_side_quiet Gain Above a b fa fb h k = sym (one_side false (of_bits binary64 a) (of_bits binary64 b) (above_beside a h) (above_beside b k))
 one_side_quiet Gain Below a b fa fb h k = sym (one_side true (of_bits binary64 a) (of_bits binary64 b) (below_beside a fa h) (below_beside b fb k))
 one_side_quiet Phase Above a b fa fb h k = rw (h, k)

@@ -1,10 +1,9 @@
 -- The set-up panel's entries: readings in bytes, 24 each, and an answer of eight bytes. Definitions only.
-use Rattle.std.specs.Prelude.{ℕ, ◌+◌, ◌*◌, ◌/◌, ◌%◌, ◌≡◌, not, List, [], ◌∷◌, ◌++◌, eqb, ltb, length, drop, Float}
+use Rattle.std.specs.Prelude.{ℕ, ◌+◌, ◌*◌, ◌/◌, ◌%◌, ◌≡◌, not, List, [], ◌∷◌, ◌++◌, eqb, ltb, length, drop, Option, Float}
 use Rattle.laws.specs.Loops.{up_to}
 use Rattle.laws.specs.Outcome.{Outcome, when}
 use Rattle.wire.specs.Bytes.{f64_at, f64_bytes}
 use Rattle.sweep.specs.Answer.{scanned}
-use Rattle.sweep.specs.declared.Crossing.{Crossing}
 use Rattle.bode.specs.Bode.{reading}
 use Rattle.bode.specs.declared.Reading.{Reading}
 
@@ -21,7 +20,7 @@ unfoldable pub panel_refusal : ℕ → ℕ → ℕ
 panel_refusal n room = when (not (eqb (n % 24) 0)) 19 (when (ltb 4096 (n / 24)) 15 (when (ltb room 8) 14 0))
 
 -- what a call comes to, whose answer is defined on the readings by a scan
-unfoldable pub panel_outcome : (List Reading → Crossing) → List ℕ → List ℕ → Outcome
+unfoldable pub panel_outcome : (List Reading → Option Float) → List ℕ → List ℕ → Outcome
 panel_outcome scan b answer = scanned (panel_refusal (length b) (length answer)) (scan (decoded b))
 
 -- the answer afterwards: the value in its first eight bytes, or as it was where there is no value
