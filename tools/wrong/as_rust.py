@@ -42,21 +42,24 @@ def programs(root):
 
 def without_contracts(text):
     """The lines of a file that are no clause, no ghost item, no tactic and no attribute that Rust lacks."""
-    kept, depth, inside = [], 0, False
+    kept, depth, inside, clause = [], 0, False, False
     for line in text.split("\n"):
         if not inside:
             if not re.match(r"\s*((requires|ensures)\b|(pub )?ghost |#!?\[tactic\b)|#\[unsafe\(no_mangle\)\]$|\s*#\[derive\(Drop\)\]$", line):
                 kept.append(line)
                 continue
-            depth = 0
+            depth, clause = 0, bool(re.match(r"\s*(requires|ensures)\b", line))
         # to the end of what is opened; a ghost item ends with ;
         depth += sum(line.count(sign) for sign in "{([") - sum(line.count(sign) for sign in "})]")
         inside = depth > 0
+        # the last clause of a trait's method has the method's ;
+        if clause and not inside and line.endswith(";"):
+            kept[-1] += ";"
     return "\n".join(kept)
 
 
-def as_rust(text, crates):
-    text = without_contracts(text)
+def as_rust(text, crates, name):
+    text = re.sub(r"\bcrate::", f"crate::{name}::", without_contracts(text))
     text = re.sub(r"(#\[derive\([^)]*), Drop\b", r"\1", text)
     # a model has ghost lines alone
     text = re.sub(r"^use std::marker::Model;\n|^impl\b[^{]*\bModel for [^{]*\{\s*\}\n", "", text, flags=re.M)
@@ -71,9 +74,9 @@ def module(root, name, crates):
     file = folder / "main.rt" if (folder / "main.rt").exists() else folder / "lib.rt"
 
     def inner(found):
-        return f"pub mod {found[1]} {{\n{as_rust((folder / (found[1] + '.rt')).read_text(), crates)}\n}}"
+        return f"pub mod {found[1]} {{\n{as_rust((folder / (found[1] + '.rt')).read_text(), crates, name)}\n}}"
 
-    text = re.sub(r"^(?:pub )?mod (\w+);", inner, as_rust(file.read_text(), crates), flags=re.M)
+    text = re.sub(r"^(?:pub )?mod (\w+);", inner, as_rust(file.read_text(), crates, name), flags=re.M)
     text = re.sub(r"^pub use (?!crate)", "pub use self::", text, flags=re.M)
     return f"mod {name} {{\n{text.replace('fn main(', 'pub fn main(')}\n}}\n"
 
