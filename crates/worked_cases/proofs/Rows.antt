@@ -128,7 +128,7 @@ unfolding same_outcome outcome
     square_root.sqrt_of
     complex.new_of complex.from_real complex.product complex.difference complex.magnitude_sq complex.magnitude_of complex.small complex.inverse complex.ratio complex.reciprocal_of complex.quotient complex.quotient_or_zero
     refusals.scan_refusal refusals.lists_refusal refusals.grid_refusal
-    answers.crossing_outcome answers.kept_outcome answers.kept_of answers.or_kept answers.scanned answers.gridded
+    answers.crossing_outcome answers.kept_outcome answers.or_kept answers.scanned answers.gridded
     scans.between scans.scanned_by
     runs.left_after
     evaluation.sum_up evaluation.term_of evaluation.pair_sum evaluation.numerator evaluation.denominator evaluation.value_at evaluation.evaluation_refusal evaluation.evaluation
