@@ -7,7 +7,11 @@ pub(crate) const MARK: f64 = -7.25;
 
 // Whether a call gave what is expected.
 pub(crate) fn verdict(rt: &impl Print, name: &str, right: bool) -> io::Result<()> {
-    let outcome = if right { "as expected" } else { "NOT as expected" };
+    let outcome = if right {
+        "as expected"
+    } else {
+        "NOT as expected"
+    };
     println!(rt; "bazintroa_{name}: {outcome}")
 }
 

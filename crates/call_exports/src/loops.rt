@@ -19,7 +19,14 @@ fn value(rt: &impl Print) -> io::Result<()> {
     let number = responses::bazintroa_eval_tf_complex(&b, &a, 1, &cosines, &sines, &mut out);
     lines::list(rt, "eval_tf_complex", number, 0, &out, &[1.0, 2.0])?;
     let number = responses::bazintroa_eval_tf_complex(&b, &a, 9, &cosines, &sines, &mut out);
-    lines::list(rt, "eval_tf_complex, refused", number, 16, &out, &[1.0, 2.0])
+    lines::list(
+        rt,
+        "eval_tf_complex, refused",
+        number,
+        16,
+        &out,
+        &[1.0, 2.0],
+    )
 }
 
 // There the plant of order 1, b 2, a 1 is P = 2/(1-j) = 1+j, and the controller of order 2, b (1, -1), a (0, -1) is

@@ -25,11 +25,7 @@ fn bode_summaries(rt: &impl Print) -> io::Result<()> {
     );
     let whole = bode_summary::bazintroa_bode_join(early.summary, late.summary);
     let refused = bode_summary::bazintroa_bode_feed(whole, &[1.0], &[1.0], &[]);
-    lines::verdict(
-        rt,
-        "bode_feed",
-        (late.number == 0) & (refused.number == 11),
-    )?;
+    lines::verdict(rt, "bode_feed", (late.number == 0) & (refused.number == 11))?;
     let number = bode_summary::bazintroa_bode_phase_crossover(late.summary, &mut out);
     lines::real(rt, "bode_phase_crossover", number, 0, out, 6.0)?;
     let number = bode_summary::bazintroa_bode_gain_crossover(whole, &mut out);

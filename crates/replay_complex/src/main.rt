@@ -2,7 +2,7 @@
 // words: question, x.re, x.im, y.re, y.im, number, and two values. tools/oracle/README.md has the questions.
 #![tactic(auto)]
 
-use complex::{Complex, Quotient};
+use complex::Complex;
 use std::io;
 use vectors::{Input, Replay};
 use wire::f64_to_bits;
@@ -32,10 +32,10 @@ fn complex(z: Complex) -> [u64; 3] {
     [0, f64_to_bits(z.re), f64_to_bits(z.im)]
 }
 
-fn expected(q: Quotient) -> [u64; 3] {
+fn expected(q: Option<Complex>) -> [u64; 3] {
     match q {
-        Quotient::Value(z) => complex(z),
-        Quotient::Nothing => [100, 0, 0],
+        Some(z) => complex(z),
+        None => [100, 0, 0],
     }
 }
 

@@ -4,7 +4,7 @@
 #![tactic(auto)]
 
 use std::io;
-use sweep::Grid;
+use sweep::FreqError;
 use vectors::{Input, Replay};
 use wire::f64_to_bits;
 
@@ -17,10 +17,10 @@ const QUESTIONS: [(u64, &str); 3] = [
 ];
 
 // The number that the oracle writes for an outcome.
-fn expected(grid: Grid) -> u64 {
+fn expected(grid: Result<(), FreqError>) -> u64 {
     match grid {
-        Grid::Filled => 0,
-        Grid::Refused(e) => e.number() as u64,
+        Ok(()) => 0,
+        Err(e) => e.number() as u64,
     }
 }
 

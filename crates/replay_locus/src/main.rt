@@ -3,9 +3,9 @@
 #![tactic(auto)]
 
 use complex::Complex;
-use root_locus::LocusPoint;
+use root_locus::{Ending, LocusPoint};
 use std::{array, io};
-use sweep::Check;
+use sweep::FreqError;
 use transfer_fn::TransferFn;
 use vectors::{Input, Replay};
 use wire::f64_to_bits;
@@ -16,13 +16,12 @@ const QUESTIONS: [(u64, &str); 3] = [
     (0, "no question"),
 ];
 
-// The number that the oracle writes for a point.
-fn expected(check: Check) -> u64 {
-    match check {
-        Check::Passed => 0,
-        Check::Refused(e) => e.number() as u64,
-    }
-}
+const NO_POINT: LocusPoint = LocusPoint {
+    gain: 0.0,
+    poles: [Complex { re: 0.0, im: 0.0 }; 8],
+    count: 0,
+    ending: Ending::Settled(0),
+};
 
 // Whether the next words are the parts of eight poles, those past the count among them.
 fn poles_are_next(input: &mut Input, poles: [Complex; 8]) -> bool {
@@ -33,10 +32,14 @@ fn poles_are_next(input: &mut Input, poles: [Complex; 8]) -> bool {
     same
 }
 
-fn is_next(input: &mut Input, p: LocusPoint) -> bool {
-    let ending = p.ending;
-    let head = [expected(p.check), f64_to_bits(p.gain), p.count as u64];
-    let end = [ending.number() as u64, f64_to_bits(ending.value())];
+// A refused point has no values: the oracle writes zeros for them.
+fn is_next(input: &mut Input, answer: Result<LocusPoint, FreqError>) -> bool {
+    let (number, p) = match answer {
+        Ok(p) => (0, p),
+        Err(e) => (e.number(), NO_POINT),
+    };
+    let head = [number as u64, f64_to_bits(p.gain), p.count as u64];
+    let end = [p.ending.number() as u64, f64_to_bits(p.ending.value())];
     input.next_are(&head) & poles_are_next(input, p.poles) & input.next_are(&end)
 }
 

@@ -4,7 +4,7 @@
 
 use bode::Reading;
 use std::{array, io};
-use sweep::Answer;
+use sweep::FreqError;
 use vectors::Replay;
 use wire::f64_to_bits;
 
@@ -24,11 +24,11 @@ const QUESTIONS: [(u64, &str); 9] = [
 const ANSWER: usize = 2;
 
 // Compares an answer to a question.
-fn compare(replay: &mut Replay, question: u64, answer: Answer) {
+fn compare(replay: &mut Replay, question: u64, answer: Result<Option<f64>, FreqError>) {
     let words = match answer {
-        Answer::Found(x) => [0, f64_to_bits(x)],
-        Answer::Absent => [100, 0],
-        Answer::Refused(e) => [e.number() as u64, 0],
+        Ok(Some(x)) => [0, f64_to_bits(x)],
+        Ok(None) => [100, 0],
+        Err(e) => [e.number() as u64, 0],
     };
     replay.compare(question, &words);
 }

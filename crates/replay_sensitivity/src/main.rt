@@ -2,9 +2,11 @@
 // tools/oracle/README.md has their format.
 #![tactic(auto)]
 
+use complex::Complex;
 use sensitivity::LoopShaping;
 use std::io;
-use transfer_fn::{Response, TransferFn};
+use sweep::FreqError;
+use transfer_fn::TransferFn;
 use vectors::{Input, Replay};
 use wire::f64_to_bits;
 
@@ -17,10 +19,10 @@ const QUESTIONS: [(u64, &str); 5] = [
 ];
 
 // Compares a response: its number, and the bits of its two parts.
-fn compare(replay: &mut Replay, question: u64, response: Response) {
+fn compare(replay: &mut Replay, question: u64, response: Result<Complex, FreqError>) {
     let words = match response {
-        Response::Value(z) => [0, f64_to_bits(z.re), f64_to_bits(z.im)],
-        Response::Refused(e) => [e.number() as u64, 0, 0],
+        Ok(z) => [0, f64_to_bits(z.re), f64_to_bits(z.im)],
+        Err(e) => [e.number() as u64, 0, 0],
     };
     replay.compare(question, &words);
 }

@@ -4,11 +4,11 @@
 
 ghost use Rattle.std.specs.Prelude.{◌≡◌, ◌<◌, length};
 
-use bode::{BodeFed, BodeSummary};
-use nyquist::{CurveFed, CurveSummary};
-use sensitivity::{SensitivityFed, SensitivitySummary};
+use bode::BodeSummary;
+use nyquist::CurveSummary;
+use sensitivity::SensitivitySummary;
 use std::io;
-use sweep::{Crossing, Kept};
+use sweep::NotKept;
 use vectors::{Input, Replay};
 use wire::f64_to_bits;
 
@@ -25,19 +25,19 @@ const QUESTIONS: [(u64, &str); 9] = [
 ];
 
 // Compares an answer: its number, and the bits of its value.
-fn compare(replay: &mut Replay, question: u64, crossing: Crossing) {
+fn compare(replay: &mut Replay, question: u64, crossing: Option<f64>) {
     let words = match crossing {
-        Crossing::At(x) => [0, f64_to_bits(x)],
-        Crossing::Missing => [100, 0],
+        Some(x) => [0, f64_to_bits(x)],
+        None => [100, 0],
     };
     replay.compare(question, &words);
 }
 
-fn compare_kept(replay: &mut Replay, question: u64, kept: Kept) {
+fn compare_kept(replay: &mut Replay, question: u64, kept: Result<Option<f64>, NotKept>) {
     let words = match kept {
-        Kept::Found(x) => [0, f64_to_bits(x)],
-        Kept::Absent => [100, 0],
-        Kept::NotKept => [101, 0],
+        Ok(Some(x)) => [0, f64_to_bits(x)],
+        Ok(None) => [100, 0],
+        Err(NotKept) => [101, 0],
     };
     replay.compare(question, &words);
 }
@@ -69,11 +69,11 @@ impl Summary for BodeSummary {
     fn take(&mut self, replay: &mut Replay, omega: &[f64], db: &[f64], phase: &[f64]) {
         let summary = *self;
         let number = match summary.feed(omega, db, phase) {
-            BodeFed::Taken(new) => {
+            Ok(new) => {
                 *self = new;
                 0
             }
-            BodeFed::Refused(e) => e.number(),
+            Err(e) => e.number(),
         };
         replay.compare(1, &[number as u64]);
     }
@@ -98,11 +98,11 @@ impl Summary for SensitivitySummary {
     fn take(&mut self, replay: &mut Replay, omega: &[f64], s: &[f64], t: &[f64]) {
         let summary = *self;
         let number = match summary.feed(omega, s, t) {
-            SensitivityFed::Taken(new) => {
+            Ok(new) => {
                 *self = new;
                 0
             }
-            SensitivityFed::Refused(e) => e.number(),
+            Err(e) => e.number(),
         };
         replay.compare(4, &[number as u64]);
     }
@@ -127,11 +127,11 @@ impl Summary for CurveSummary {
     fn take(&mut self, replay: &mut Replay, re: &[f64], im: &[f64], _none: &[f64]) {
         let summary = *self;
         let number = match summary.feed(re, im) {
-            CurveFed::Taken(new) => {
+            Ok(new) => {
                 *self = new;
                 0
             }
-            CurveFed::Refused(e) => e.number(),
+            Err(e) => e.number(),
         };
         replay.compare(7, &[number as u64]);
     }
