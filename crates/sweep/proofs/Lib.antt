@@ -1,6 +1,5 @@
 pub mod Numbers
 pub mod Answers
-pub mod Search
 pub mod Sides
 pub mod Scans
 pub mod Conditions

@@ -1,5 +1,5 @@
 -- Scans over a list of readings, of any kind and any length: the first two neighbours that cross. Definitions only.
-use Rattle.std.specs.Prelude.{ℕ, zero, suc, ◌≡◌, Bool, true, false, not, ◌&&◌, ◌||◌, cond, List, [], ◌∷◌, ◌++◌, Option, Some, None, Float}
+use Rattle.std.specs.Prelude.{◌≡◌, Bool, true, false, not, ◌&&◌, ◌||◌, cond, List, [], ◌∷◌, ◌++◌, Option, Some, None, Float}
 use Rattle.std.specs.Bool.{beq}
 use Rattle.std.specs.Option.{option_or}
 use Rattle.std.specs.Float.{binary64}
@@ -78,10 +78,3 @@ zip3 f (x ∷ xs) (y ∷ ys) (z ∷ zs) = f x y z ∷ zip3 f xs ys zs
 -- what a scan of three lists answers, that is defined on their readings
 unfoldable pub scanned_by : {R : Type 0} → (Float → Float → Float → R) → (List R → Option Float) → List Float → List Float → List Float → Outcome
 scanned_by f scan xs ys zs = scanned (lists_refusal xs ys zs) (scan (zip3 f xs ys zs))
-
--- ---- the place of the first pair
-
--- the first k, of the n from i on, that passes a test, and i + n where none does
-unfoldable pub first_where : (ℕ → Bool) → ℕ → ℕ → ℕ
-first_where test zero i = i
-first_where test (suc n) i = cond (test i) i (first_where test n (suc i))

@@ -133,7 +133,11 @@ pub fn first_crossing<R: Reading, S: Readings<R>, C: Crossing<R>>(
 }
 
 // What was found already, or else the sweep's first crossing. It is scanned only where that decides.
-pub fn crossing_from<R: Reading, S: Readings<R>, C: Crossing<R>>(found: Option<f64>, sweep: &S, crossing: &C) -> Option<f64>
+pub fn crossing_from<R: Reading, S: Readings<R>, C: Crossing<R>>(
+    found: Option<f64>,
+    sweep: &S,
+    crossing: &C,
+) -> Option<f64>
     ensures { result ≡ or_else found (first_pair (C.pair crossing.now) (S.readings sweep.now)) }
 {
     match found {
