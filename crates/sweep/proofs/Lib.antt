@@ -7,3 +7,4 @@ pub mod Grids
 pub mod Runs
 pub mod Plain
 pub mod Behind
+pub mod Place

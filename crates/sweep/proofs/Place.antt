@@ -1,0 +1,54 @@
+-- The place of the first crossing: a scan answers what the first pair that crosses says. Assumes nothing.
+use Prim.Native.Nat.{ℕ, zero, suc, ◌+◌, ◌-◌, ◌<◌, ◌≤◌}
+use mathlib.Core.Path.{◌≡◌, refl, sym, ◌∙◌, ap}
+use mathlib.Core.Bool.{Bool, true, false, cond}
+use mathlib.Core.List.{List, [], ◌∷◌}
+use native.Mathlib.Nat.{add-zero, zero-add, add-suc, suc-add}
+use native.Mathlib.Numerals.{add-one}
+use native.Mathlib.Omega.{arith}
+use borrow.Author.Tests.{lt-ltb, le-ltb, ltb-true, ltb-false}
+use lib.Dec.{ltb}
+use lib.ListN.{length, get_or}
+use lib.Ieee.{Float}
+use Rattle.std.specs.Prelude.{Option}
+use Rattle.sweep.specs.Scan.{or_else, first_from, first_pair, cross_if}
+
+-- the first k, of the n from i on, that passes a test, and i + n where none does
+unfoldable pub first_where : (ℕ → Bool) → ℕ → ℕ → ℕ
+first_where test zero i = i
+first_where test (suc n) i = cond (test i) i (first_where test n (suc i))
+
+-- a test on two numbers, and on the next ones
+both_more : (a b : ℕ) → ltb a b ≡ ltb (a + 1) (suc b)
+both_more a b = go (ltb a b) refl
+  where
+    go : (t : Bool) → ltb a b ≡ t → t ≡ ltb (a + 1) (suc b)
+    go true e = let h = ltb-true a b e in sym (lt-ltb (a + 1) (suc b) (omega arith))
+    go false e = let h : b ≤ a = ltb-false a b e in sym (le-ltb (a + 1) (suc b) (omega arith))
+
+-- The answer is what the first pair that crosses says: test k is whether the readings at k and k + 1 cross, and value k where.
+module _ {R : Type 0} (p : R → R → Option Float) (other : R) (test : ℕ → Bool) (value : ℕ → Float) where
+  -- a pair, and what the pairs behind it say
+  one_more : (i n : ℕ) (b : Bool) → test i ≡ b → (here rest : Option Float) → here ≡ cross_if (test i) (value i)
+      → rest ≡ cross_if (ltb (first_where test n (suc i)) (suc i + n)) (value (first_where test n (suc i)))
+      → or_else here rest ≡ cross_if (ltb (first_where test (suc n) i) (i + suc n)) (value (first_where test (suc n) i))
+  unfolding first_where
+  one_more i n true e here rest h r = rw (h, e) (rw (lt-ltb i (i + suc n) (omega arith)))
+  one_more i n false e here rest h r = rw (h, e) (rw (add-suc i n, ← suc-add i n) r)
+
+  from_place : (i : ℕ) (y : R) (l : List R) → ((k : ℕ) → k < length l → p (get_or (y ∷ l) k other) (get_or l k other) ≡ cross_if (test (i + k)) (value (i + k)))
+      → first_from p y l ≡ cross_if (ltb (first_where test (length l) i) (i + length l)) (value (first_where test (length l) i))
+  unfolding first_where
+  from_place i y [] said = ap (λ (b : Bool). cross_if b (value i)) (sym (le-ltb i (i + 0) (omega arith)))
+  from_place i y (z ∷ l) said =
+      one_more i (length l) (test i) refl (p y z) (first_from p z l) (rw (add-zero i) at (said 0 (omega arith)))
+      (from_place (suc i) z l (λ k h. rw (suc-add i k, ← add-suc i k) (said (suc k) (omega arith))))
+
+  pub pair_place : (l : List R) → ((k : ℕ) → k + 1 < length l → p (get_or l k other) (get_or l (k + 1) other) ≡ cross_if (test k) (value k))
+      → first_pair p l ≡ cross_if (ltb (first_where test (length l - 1) 0 + 1) (length l)) (value (first_where test (length l - 1) 0))
+  pair_place [] said = ap (λ (b : Bool). cross_if b (value (first_where test 0 0))) (sym (le-ltb (first_where test 0 0 + 1) 0 (omega arith)))
+  pair_place (x ∷ l) said =
+      let w = first_where test (length l) 0 in
+      let n : suc (length l) - 1 ≡ length l = omega arith in
+      let t : ltb w (0 + length l) ≡ ltb (w + 1) (suc (length l)) = rw zero-add (both_more w (length l)) in
+      rw n (from_place 0 x l (λ k h. rw zero-add (rw add-one at (said k (omega arith)))) ∙ ap (λ (b : Bool). cross_if b (value w)) t)
