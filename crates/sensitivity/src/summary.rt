@@ -66,7 +66,8 @@ impl SensitivitySummary {
         }
     }
 
-    // The summary with a part's readings behind it. The part is scanned only where it decides.
+    // The summary with a part's readings behind it. The part is scanned only where it decides. (By `match`: of a closure
+    // that borrows the sweep the check does not know what it returns.)
     #[tactic(auto, unfolding(crate::specs::Summary::fed_by, crate::specs::Summary::join_of, crate::specs::Summary::summary_of, crate::specs::Summary::drop_behind, crate::specs::Scans::sensitivity_crossover, sweep::specs::Answer::or_kept), using(sweep::proofs::Scans::or_else_assoc))]
     fn fed(self, sweep: Lists) -> SensitivitySummary
         ensures { result ≡ fed_by self (zip3 reading sweep.entry.omega.now sweep.entry.first.now sweep.entry.second.now) }
