@@ -12,7 +12,8 @@ ghost use Rattle.bode.specs.Readings.{omegas, dbs, phases};
 pub use summary::{BodePlain, BodeSummary};
 use sweep::{Crossing, FreqError, Lists};
 
-// One reading of a sweep: the frequency, the magnitude in decibels and the phase in degrees.
+// One reading of a sweep: the frequency, the magnitude in decibels and the phase in degrees. (A struct of its own, as that of
+// S and T is, for the C interface.)
 #[repr(C)]
 #[derive(Clone, Copy)]
 pub struct Reading {
@@ -118,7 +119,8 @@ impl Crossing<Reading> for PhaseMargin {
     }
 }
 
-// The frequency where the magnitude first crosses 0 dB.
+// The frequency where the magnitude first crosses 0 dB. (This and the next are two lines each, of which one names what differs:
+// one function of both would be no shorter. So are the margins.)
 #[tactic(auto, unfolding(sweep::specs::Scan::scanned_by, crate::specs::Bode::gain_crossover), using(sweep::proofs::Answers::scan_turned_away, sweep::proofs::Answers::scan_let_through))]
 pub fn gain_crossover_frequency(
     omega: &[f64],

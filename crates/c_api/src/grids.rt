@@ -7,6 +7,7 @@ ghost use Rattle.c_api.specs.Places.{Filled};
 
 use sweep::FreqError;
 
+// (A number, for the C interface.)
 #[tactic(auto, unfolding(sweep::specs::Answer::outcome_of_grid))]
 fn grid_number(grid: Result<(), FreqError>) -> u32
     ensures { result ≡ (outcome_of_grid grid).number }

@@ -16,7 +16,7 @@ use sensitivity::{SensitivityPlain, SensitivitySummary};
 use sweep::FreqError;
 
 // What a feed gives: 0 and the summary with the part behind it, or the refusal and the summary as it came. (There is one for
-// each kind: a generic struct cannot cross to C.)
+// each kind, and a `put_fed` for it: a generic struct cannot cross to C.)
 #[repr(C)]
 #[derive(Clone, Copy)]
 pub struct SensitivityPlainFed {

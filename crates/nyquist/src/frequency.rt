@@ -16,7 +16,8 @@ fn frequency_at(omega_max: f64, n: usize, i: usize) -> f64
     at / last * omega_max
 }
 
-// Writes the n frequencies into the first n places of the list.
+// Writes the n frequencies into the first n places of the list. (The grid of gains takes the same three steps, with another
+// refusal and another point: one function of both, passed these, would be no shorter.)
 pub fn fill_frequency_grid(omega_max: f64, n: usize, list: &mut [f64]) -> Result<(), FreqError>
     ensures { (outcome_of_grid result ≡ frequency_outcome omega_max n list.old) × (list.new ≡ frequency_grid omega_max n list.old) }
 {

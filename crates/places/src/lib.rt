@@ -84,7 +84,8 @@ pub fn transfer_fn(b: &[f64; 8], a: &[f64; 8], order: usize) -> TransferFn
     }
 }
 
-// What is answered to a host: its number is returned, and its values go to the place, on 0 alone.
+// What is answered to a host: its number is returned, and its values go to the place, on 0 alone. (Numbers, for the C
+// interface.)
 pub trait Answer {
     type Place;
 

@@ -2,7 +2,7 @@
 // input is a list of cases; tools/oracle/README.md has their format.
 #![tactic(auto)]
 
-ghost use Rattle.std.specs.Prelude.{◌≡◌, ◌<◌, length};
+ghost use Rattle.std.specs.Prelude.{◌<◌};
 
 use bode::BodeSummary;
 use nyquist::CurveSummary;
@@ -193,9 +193,7 @@ fn register(input: &mut Input) -> usize
 }
 
 // Reads a call and makes it.
-fn call<S: Summary>(replay: &mut Replay, registers: &mut [S])
-    requires { length registers.old ≡ 4 }
-{
+fn call<S: Summary>(replay: &mut Replay, registers: &mut [S; 4]) {
     let call = replay.input.number();
     let at = register(&mut replay.input);
     match call {
@@ -210,9 +208,7 @@ fn call<S: Summary>(replay: &mut Replay, registers: &mut [S])
 }
 
 // Makes the calls of a case, and asks register 0.
-fn calls<S: Summary>(replay: &mut Replay, registers: &mut [S])
-    requires { length registers.old ≡ 4 }
-{
+fn calls<S: Summary>(replay: &mut Replay, registers: &mut [S; 4]) {
     for _ in 0..replay.input.number() {
         call(replay, registers);
     }

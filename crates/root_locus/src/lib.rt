@@ -63,7 +63,7 @@ static START: [[f64; 2]; 30] = [
 ];
 
 // Roots with their count, and how the search for them ended; the places past the count hold (0, 0). They are what the
-// formulas and the search give: nothing says that the polynomial is 0 there.
+// formulas and the search give: nothing says that the polynomial is 0 there. (An array with a count: there is no heap.)
 #[derive(Clone, Copy)]
 struct Roots {
     z: [Complex; 8],

@@ -107,7 +107,7 @@ impl LoopShaping {
     }
 }
 
-// One reading of a sweep: the frequency, and S and T in decibels.
+// One reading of a sweep: the frequency, and S and T in decibels. (A struct of its own, as bode's is, for the C interface.)
 #[repr(C)]
 #[derive(Clone, Copy)]
 pub struct Reading {

@@ -204,7 +204,7 @@ pub fn interpolate(w0: f64, w1: f64, rise: f64, span: f64) -> f64
 pub struct NotKept;
 
 // What is kept as a mark and a value, for a host to keep: 1 and the frequency, 0 and 0 where there is none, 2 and 0 where it
-// is not kept.
+// is not kept. (Numbers, for the C interface.)
 pub fn kept_mark(kept: Result<Option<f64>, NotKept>) -> u32
     ensures { result ≡ kept_mark kept }
 {

@@ -9,7 +9,8 @@ ghost use Rattle.transfer_fn.specs.Evaluation.{pair_sum, value_at, evaluation_re
 use complex::Complex;
 use sweep::FreqError;
 
-// (b[0] + b[1] z^-1 + ..) / (1 + a[0] z^-1 + a[1] z^-2 + ..), with `order` coefficients of each kind.
+// (b[0] + b[1] z^-1 + ..) / (1 + a[0] z^-1 + a[1] z^-2 + ..), with `order` coefficients of each kind. (Arrays with a count, for
+// the C interface.)
 #[derive(Clone, Copy)]
 pub struct TransferFn {
     pub b: [f64; 8],
