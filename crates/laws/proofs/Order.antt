@@ -9,8 +9,7 @@ use native.Mathlib.Omega.{arith}
 use borrow.Author.Tests.{ltb-false, le-ltb}
 use lib.IntN.{ℤ}
 use lib.Dec.{T, ltb, eqb, eqb_refl, eqb→eq, ltb→lt, lt→ltb}
-use lib.Ieee.{Float, nan, inf, fin, Format, prec, low, hid, up, down, size, below, level, lt, eq, le, ne, is_nan, fits, to_bits, of_bits}
-use lib.Ieee.Compare.{differs_from_itself}
+use lib.Ieee.{Float, nan, inf, fin, Format, prec, low, hid, up, down, size, below, level, lt, eq, le, fits, to_bits, of_bits}
 use lib.Ieee.Fits.{down_pos, and_l, and_r}
 use lib.Ieee.Scale.{finite}
 use lib.Ieee.Nearest.{div_same}
@@ -305,15 +304,3 @@ le_antisym f (fin false m e) (inf false) p q a h k = absurd (unfold le in k)
 le_antisym f (fin false m e) (fin true n d) p q a h k = absurd (above_of_le (fin false m e) (fin true n d) a h)
 le_antisym f (fin false m e) (fin false n d) p q a h k =
     sym (of_bits-to_bits f (fin false m e) p) ∙ ap (of_bits f) (same_bits f m e n d (le_antisymm (at_most m e n d h) (at_most n d m e k))) ∙ of_bits-to_bits f (fin false n d) q
-
--- only a NaN differs from itself
-pub ne_itself : (x : Float) → ne x x ≡ is_nan x
-unfolding is_nan
-ne_itself nan = unfold ne in refl
-ne_itself (inf true) = unfold ne in refl
-ne_itself (inf false) = unfold ne in refl
-ne_itself (fin s m e) = go (ne (fin s m e) (fin s m e)) refl
-  where
-    go : (b : Bool) → ne (fin s m e) (fin s m e) ≡ b → b ≡ false
-    go false h = refl
-    go true h = let d : fin s m e ≡ nan = differs_from_itself (fin s m e) (rw h tt) in cc

@@ -8,7 +8,7 @@ use borrow.Author.Tests.{eq-eqb, ne_eqb, eqb-true}
 use lib.Dec.{eqb}
 use lib.Ieee.{Float}
 use Rattle.std.specs.Prelude.{Option, Some, None, Result, Ok, Err}
-use Rattle.laws.specs.Outcome.{Outcome, found, none, refused, option_outcome, result_outcome, when, answered}
+use Rattle.laws.specs.Outcome.{Outcome, found, refused, option_outcome, result_outcome, when, answered}
 
 pub answered_found : {n : ℕ} (values : List Float) → n ≡ 0 → answered n values ≡ found values
 unfolding answered

@@ -8,7 +8,7 @@ use native.Mathlib.Omega.{arith}
 use lib.Dec.{T, leb, eqb, nltb→le}
 use lib.Pow.{pow-add, pow_pos, pow_mono, shl_lt}
 use lib.Count.{count_trailing_zeros, under}
-use lib.Ieee.{Float, nan, inf, fin, binary64, up, down, minus, odd, units, is_nan, of_fields, of_bits, nan_bits, div}
+use lib.Ieee.{Float, nan, inf, fin, binary64, up, down, minus, odd, units, is_nan, of_fields, of_bits, nan_bits}
 use lib.Ieee.Bits.{nan_bits_is, nan_bits_above}
 use lib.Ieee.Fits.{down_pos}
 use lib.Ieee.Exact.{HasValue, odd_sign}
@@ -162,10 +162,6 @@ units_number q k = grind arith
 pub nan_constant : of_bits binary64 0x7ff8_0000_0000_0000 ≡ nan
 unfolding of_bits
 nan_constant = refl
-
-pub nan_by_division : div binary64 (of_bits binary64 0) (of_bits binary64 0) ≡ nan
-unfolding div of_bits
-nan_by_division = refl
 
 pub not_above : (b : ℕ) → T (not (is_nan (of_bits binary64 b))) → b % 2 ^ 63 ≤ 2047 * 2 ^ 52
 not_above b h = nltb→le (2047 * 2 ^ 52) (b % 2 ^ 63) (subst (λ (t : Bool). T (not t)) (sym (nan_bits_is binary64 b) ∙ nan_bits_above binary64 b) h)

@@ -9,9 +9,6 @@ square_even r = grind arith
 pub square_next : (n : ℕ) → (n + 1) * (n + 1) ≡ n * n + 2 * n + 1
 square_next n = grind arith
 
-pub square_odd : (r : ℕ) → (2 * r + 1) * (2 * r + 1) ≡ 4 * (r * r) + 4 * r + 1
-square_odd r = grind arith
-
 -- ---- a power of two as one of four, with a factor 2 left over where its exponent is odd
 pub even_power : (s e : ℕ) → e % 2 ≡ 0 → s * 2 ^ (2 * (e / 2)) ≡ s * 2 ^ e
 even_power s e h = grind arith
@@ -25,7 +22,3 @@ odd_power s e h =
 -- 52 factors 2 out of the power
 pub shifted : (s e : ℕ) → 52 ≤ e → s * 2 ^ 52 * 2 ^ (e - 52) ≡ s * 2 ^ e
 shifted s e h = grind (arith, mul_assoc, pow-add)
-
--- ---- the square of a number of two parts
-pub square_sum : (x b : ℕ) → (x + b) * (x + b) ≡ x * x + 2 * (x * b) + b * b
-square_sum x b = grind arith

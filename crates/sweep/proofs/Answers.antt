@@ -7,7 +7,7 @@ use borrow.Author.Tests.{ne_eqb}
 use lib.Ieee.{Float}
 use Rattle.std.specs.Prelude.{Option, Some, None, Result, Ok, Err}
 use Rattle.laws.specs.Loops.{filled}
-use Rattle.laws.specs.Outcome.{Outcome, found, none, refused, answered, Answers}
+use Rattle.laws.specs.Outcome.{found, none, refused, answered, Answers}
 use Rattle.laws.proofs.Outcome.{found_values, option_known, result_known}
 use Rattle.sweep.specs.Refusal.{number_of, refusal_of}
 use Rattle.sweep.specs.Answer.{outcome_of, crossing_outcome, kept_outcome, scanned, outcome_of_grid, gridded}
@@ -67,18 +67,6 @@ crossing_kept None h = omega arith
 pub not_zero : (e : FreqError) → number_of e ≡ 0 → ⊥
 not_zero e h =
     let p = number_above e in omega arith
-
--- ---- the outcome of a scan whose conditions gave n
-module _ {A : Type 0} {k : Result A FreqError} {n : ℕ} (given : refusal_of k ≡ n) (c : Option Float) where
-  pub scan_refused : {e : FreqError} → k ≡ Err e → outcome_of (Err e) ≡ scanned n c
-  unfolding outcome_of scanned
-  scan_refused {e} h =
-      let is : n ≡ number_of e = sym given ∙ ap refusal_of h in
-      rw is (rw (ne_eqb (number_of e) 0 (not_zero e)))
-
-  pub scan_passed : {x : A} {o : Outcome} → k ≡ Ok x → o ≡ crossing_outcome c → o ≡ scanned n c
-  unfolding scanned
-  scan_passed h e = let z : n ≡ 0 = sym given ∙ ap refusal_of h in rw z e
 
 -- ---- the two answers of a filler, whose conditions gave n: the answer, and the lent list
 module _ {k : Result (Unit {0}) FreqError} {n : ℕ} (given : refusal_of k ≡ n) (g : ℕ → Float) (count : ℕ) (l : List Float) where

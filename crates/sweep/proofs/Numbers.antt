@@ -3,12 +3,8 @@ use Prim.Native.Nat.{ℕ, ◌<◌}
 use mathlib.Core.Path.{◌≡◌, refl, sym, ap, ◌∙◌}
 use mathlib.Core.Bool.{cond}
 use native.Mathlib.Omega.{arith}
-use mathlib.Core.List.{List}
-use lib.Ieee.{Float}
 use Rattle.std.specs.Prelude.{Result, Ok, Err}
 use lib.Dec.{T, eqb, ltb, ltb→lt}
-use Rattle.laws.specs.Outcome.{refused, answered}
-use Rattle.laws.proofs.Outcome.{answered_refused}
 use Rattle.sweep.specs.Refusal.{number_of, refusal_of}
 use Rattle.sweep.specs.declared.FreqError.{FreqError}
 use Rattle.sweep.specs.declared.FreqError.TheVariants.{InsufficientPoints, InvalidFrequencyRange, InvalidParameter, LengthsDiffer, CubicLeftOut, TooFewPairs, NoRoom, TooMany, WrongOrder, WrongIndex, WrongByteCount}
@@ -66,10 +62,5 @@ check_known (Err e) (Err f) h = ap Err (number_known e f h)
 
 -- ---- what the answer of a call comes to, whose conditions gave n
 module _ {A : Type 0} {k : Result A FreqError} {n : ℕ} (given : refusal_of k ≡ n) where
-  pub turned_away : {e : FreqError} (values : List Float) → k ≡ Err e → refused (number_of e) ≡ answered n values
-  turned_away {e} values h =
-      let is : number_of e ≡ n = sym (ap refusal_of h) ∙ given in
-      rw is (sym (answered_refused values (rw is at (number_above e))))
-
   pub let_through : {x : A} → k ≡ Ok x → n ≡ 0
   let_through h = sym given ∙ ap refusal_of h

@@ -1,11 +1,9 @@
 -- The laws of a scan: one list behind another, what "none" means, and the place of the first pair that crosses. Assumes nothing.
 use Prim.Native.Nat.{ℕ, zero, suc, ◌+◌, ◌-◌, ◌<◌, ◌≤◌}
 use mathlib.Core.Path.{◌≡◌, refl, sym, ◌∙◌, ap}
-use mathlib.Core.Bool.{Bool, true, false, not, ◌&&◌, ◌||◌, cond}
+use mathlib.Core.Bool.{Bool, true, false, ◌&&◌, ◌||◌, cond}
 use mathlib.Core.List.{List, [], ◌∷◌, ◌++◌, append-nil}
 use native.Mathlib.Omega.{arith}
-use borrow.Author.Tests.{ne_eqb}
-use lib.Dec.{eqb}
 use lib.ListN.{length, get_or, get_or-eq_default}
 use lib.Ieee.{Float}
 use Rattle.std.specs.Prelude.{Option, Some, None, Ok, drop}
@@ -58,10 +56,6 @@ module _ {R : Type 0} where
   pub some_append : (l k : List R) → (not_empty l || not_empty k) ≡ not_empty (l ++ k)
   some_append [] k = refl
   some_append (x ∷ l) k = refl
-
-  pub some_length : (l : List R) → not (eqb (length l) 0) ≡ not_empty l
-  some_length [] = refl
-  some_length (x ∷ l) = rw (ne_eqb (length (x ∷ l)) 0 (λ (e : length (x ∷ l) ≡ 0). omega arith))
 
   module _ (other : R) where
     pub first_behind : (l k : List R) → cond (not_empty l) (get_or l 0 other) (get_or k 0 other) ≡ get_or (l ++ k) 0 other

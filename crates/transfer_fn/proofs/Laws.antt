@@ -6,7 +6,7 @@ use native.Mathlib.Omega.{arith}
 use lib.ListN.{length, get_or-append}
 use Rattle.std.specs.Prelude.{Result, Ok, Err}
 use lib.Ieee.{Float, nan, add, sub, mul, div, lt, of_bits}
-use Rattle.laws.specs.Outcome.{Outcome, found, answered}
+use Rattle.laws.specs.Outcome.{found, answered}
 use Rattle.laws.proofs.Outcome.{answered_found, answered_refused, found_values, result_known, passed_from, refused_from}
 use Rattle.scalar.specs.Scalar.{f0, f1}
 use Rattle.complex.specs.Complex.{from_real, small, ratio, magnitude_sq, values_of, quotient_or_zero}

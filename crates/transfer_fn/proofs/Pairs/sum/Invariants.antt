@@ -1,4 +1,4 @@
-use Prim.Native.Nat.{◌≤◌, ◌-◌}
+use Prim.Native.Nat.{◌≤◌}
 use mathlib.Core.Path.{◌≡◌}
 use Rattle.scalar.specs.Scalar.{f0}
 use Rattle.transfer_fn.specs.Evaluation.{sum_up, term_of}
