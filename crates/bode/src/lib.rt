@@ -34,13 +34,23 @@ impl sweep::Reading for Reading {
 #[derive(Clone, Copy)]
 pub struct Gain;
 
-#[tactic(auto, unfolding(crate::specs::Bode::gain_pair, crate::specs::Bode::gain_between))]
+impl Gain {
+    // Where the magnitude is 0 dB on the straight line from a to b.
+    #[tactic(auto, unfolding(crate::specs::Bode::gain_between))]
+    pub fn between(&self, a: Reading, b: Reading) -> f64
+        ensures { result ≡ gain_between a b }
+    {
+        sweep::interpolate(a.omega, b.omega, -a.db, b.db - a.db)
+    }
+}
+
+#[tactic(auto, unfolding(crate::specs::Bode::gain_pair))]
 impl Crossing<Reading> for Gain {
     ghost pair = { λ s. gain_pair };
 
     fn pair(&self, a: Reading, b: Reading) -> Option<f64> {
         if sweep::crosses_zero(a.db, b.db) {
-            return Some(sweep::interpolate(a.omega, b.omega, -a.db, b.db - a.db));
+            return Some(self.between(a, b));
         }
         None
     }
@@ -50,13 +60,23 @@ impl Crossing<Reading> for Gain {
 #[derive(Clone, Copy)]
 pub struct Phase;
 
-#[tactic(auto, unfolding(crate::specs::Bode::phase_pair, crate::specs::Bode::phase_between))]
+impl Phase {
+    // Where the phase is -180 degrees on the straight line from a to b.
+    #[tactic(auto, unfolding(crate::specs::Bode::phase_between))]
+    pub fn between(&self, a: Reading, b: Reading) -> f64
+        ensures { result ≡ phase_between a b }
+    {
+        sweep::interpolate(a.omega, b.omega, -180.0 - a.phase, b.phase - a.phase)
+    }
+}
+
+#[tactic(auto, unfolding(crate::specs::Bode::phase_pair))]
 impl Crossing<Reading> for Phase {
     ghost pair = { λ s. phase_pair };
 
     fn pair(&self, a: Reading, b: Reading) -> Option<f64> {
         if sweep::crosses_level(-180.0, a.phase, b.phase) {
-            return Some(sweep::interpolate(a.omega, b.omega, -180.0 - a.phase, b.phase - a.phase));
+            return Some(self.between(a, b));
         }
         None
     }

@@ -7,3 +7,4 @@ pub mod Conditions
 pub mod Endings
 pub mod Laws
 pub mod Gains
+pub mod Lists

@@ -121,3 +121,10 @@ finite_above x f h l =
 
 pub infinite_above : (x : Float) → fits binary64 x ≡ true → lt (of_bits binary64 0) x ≡ true → 2047 * 2 ^ 52 ≤ to_bits binary64 x → positive x ≡ false
 infinite_above x f h l = sym (ordinary_if x (subst T (sym f) tt) h) ∙ le-ltb (to_bits binary64 x) (2047 * 2 ^ 52) l
+
+-- a number above 0 is no NaN
+pub above_number : (x : Float) → lt (of_bits binary64 0) x ≡ true → T (not (is_nan x))
+unfolding lt of_bits is_nan
+above_number nan h = absurd (false≢true h)
+above_number (inf s) h = tt
+above_number (fin s m e) h = tt

@@ -5,12 +5,12 @@
 // be turned back into the place of its counts.
 #![tactic(auto)]
 
-ghost use Rattle.std.specs.Prelude.{◌≡◌, ◌<◌, Bool, false, IsSome, IsTrue, MatchOption};
+ghost use Rattle.std.specs.Prelude.{◌≡◌, ◌<◌, Bool, false, IsErr, IsSome, IsTrue, MatchOption};
 ghost use Rattle.vectors.specs.Made.{Made};
 ghost use Rattle.vectors.specs.Tally.{unmarked_of, known_of, one_more, none_asked, begun_with, counted_in};
 
 use std::io::{ErrorKind, Print, Read, Stdin};
-use std::{array, fmt, io};
+use std::{fmt, io};
 
 // Standard input. It ends where a read fails; that error is kept for the end of the program.
 #[derive(Drop)]
@@ -74,8 +74,14 @@ impl Input {
     }
 
     // The next N floats.
-    pub fn array<const N: usize>(&mut self) -> [f64; N] {
-        array::from_fn(|_| self.float())
+    pub fn array<const N: usize>(&mut self) -> [f64; N]
+        ensures { IsSome self.old.failed → self.new ≡ self.old }
+    {
+        let mut floats = [0.0; N];
+        for place in floats.iter_mut() {
+            *place = self.float();
+        }
+        floats
     }
 
     // Makes a list of `count` floats that are read, with `pad` copies of the first of them before it, and answers its
@@ -286,7 +292,9 @@ impl Replay {
     }
 
     // Prints a line for each of these questions, with its name. Then the error of a read that failed, if one did.
-    pub fn end(self, rt: &impl Print, questions: &[(u64, &str)]) -> io::Result<()> {
+    pub fn end(self, rt: &impl Print, questions: &[(u64, &str)]) -> io::Result<()>
+        ensures { IsSome self.input.failed → IsErr result }
+    {
         for (question, name) in questions {
             self.tally.line(rt, *question, name)?;
         }
