@@ -1,3 +1,4 @@
+pub mod Behind
 pub mod Coefficients
 pub mod Rounds
 pub mod Padding
