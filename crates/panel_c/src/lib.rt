@@ -1,5 +1,5 @@
 // The entries of `panel` as hosts call them: each export is one call of its namesake there, with the same clauses.
-// include/bazintroa.h declares them.
+// include/bazintroa.h declares them. (They stand here too for the C interface: an archive has only what its own crate exports.)
 #![tactic(auto)]
 
 ghost use Rattle.bode.specs.Bode.{gain_crossover, phase_crossover};
