@@ -15,14 +15,14 @@ pub(crate) fn verdict(rt: &impl Print, name: &str, right: bool) -> io::Result<()
     println!(rt; "bazintroa_{name}: {outcome}")
 }
 
-// The first place in which two lists differ.
+// The first place in which two lists differ, as far as the shorter goes.
 fn first_other(x: &[f64], y: &[f64]) -> Option<usize> {
     x.iter()
         .zip(y)
         .position(|(x, y)| wire::f64_to_bits(*x) != wire::f64_to_bits(*y))
 }
 
-// A number and places, each with what is expected; where they differ, what they are.
+// A number and places, each with what is expected; where they differ, what they are. No list has more than 16 places.
 pub(crate) fn list(
     rt: &impl Print,
     name: &str,
@@ -32,14 +32,12 @@ pub(crate) fn list(
     are: &[f64],
 ) -> io::Result<()> {
     let other = first_other(places, are);
-    let same = (places.len() == are.len()) & other.is_none();
-    verdict(rt, name, (number == is) & same)?;
-    if number != is {
-        println!(rt; "    number {number}")?;
-    }
-    if let Some(place) = other {
-        let bits = places.get(place).map(|x| wire::f64_to_bits(*x));
-        println!(rt; "    place {place} holds {bits:016x?}")?;
+    let right = (number == is) & (places.len() == are.len()) & other.is_none();
+    verdict(rt, name, right)?;
+    if !right {
+        let place = other.unwrap_or(16);
+        let bits = places.get(place).map_or(0, |x| wire::f64_to_bits(*x));
+        println!(rt; "    number {number}, place {place} holds {bits:016x}")?;
     }
     Ok(())
 }

@@ -5,7 +5,6 @@
 use complex::Complex;
 use std::io;
 use vectors::{Input, Replay};
-use wire::f64_to_bits;
 
 const QUESTIONS: [(u64, &str); 13] = [
     (1, "abs"),
@@ -23,37 +22,29 @@ const QUESTIONS: [(u64, &str); 13] = [
     (0, "no question"),
 ];
 
-// Answers as the oracle writes them: the number, and the bits of two values.
-fn real(x: f64) -> [u64; 3] {
-    [0, f64_to_bits(x), 0]
+// Compares a real number: the oracle writes 0.0 behind it.
+fn compare_real(replay: &mut Replay, question: u64, x: f64) {
+    replay.compare_pair(question, Complex::from_real(x));
 }
 
-fn complex(z: Complex) -> [u64; 3] {
-    [0, f64_to_bits(z.re), f64_to_bits(z.im)]
-}
-
-fn expected(q: Option<Complex>) -> [u64; 3] {
-    match q {
-        Some(z) => complex(z),
-        None => [100, 0, 0],
-    }
-}
-
-fn answer_to(question: u64, x: Complex, y: Complex) -> Option<[u64; 3]> {
+fn ask(replay: &mut Replay, question: u64, x: Complex, y: Complex) {
     match question {
-        1 => Some(real(scalar::abs(x.re))),
-        2 => Some(real(scalar::sqrt(x.re))),
-        3 => Some(complex(Complex::new(x.re, x.im))),
-        4 => Some(complex(Complex::from_real(x.re))),
-        5 => Some(complex(x.multiply(y))),
-        6 => Some(complex(x.add(y))),
-        7 => Some(complex(x.sub(y))),
-        8 => Some(real(x.magnitude())),
-        9 => Some(real(x.magnitude_sq())),
-        10 => Some(expected(x.reciprocal())),
-        11 => Some(expected(x.divide(y))),
-        12 => Some(real(scalar::EPSILON)),
-        _ => None,
+        1 => compare_real(replay, question, scalar::abs(x.re)),
+        2 => compare_real(replay, question, scalar::sqrt(x.re)),
+        3 => replay.compare_pair(question, Complex::new(x.re, x.im)),
+        4 => replay.compare_pair(question, Complex::from_real(x.re)),
+        5 => replay.compare_pair(question, x.multiply(y)),
+        6 => replay.compare_pair(question, x.add(y)),
+        7 => replay.compare_pair(question, x.sub(y)),
+        8 => compare_real(replay, question, x.magnitude()),
+        9 => compare_real(replay, question, x.magnitude_sq()),
+        10 => replay.compare_pair(question, x.reciprocal()),
+        11 => replay.compare_pair(question, x.divide(y)),
+        12 => compare_real(replay, question, scalar::EPSILON),
+        _ => {
+            replay.input.skip(3);
+            replay.no_question();
+        }
     }
 }
 
@@ -65,13 +56,7 @@ fn read_complex(input: &mut Input) -> Complex {
 fn answer(replay: &mut Replay, question: u64) {
     let x = read_complex(&mut replay.input);
     let y = read_complex(&mut replay.input);
-    match answer_to(question, x, y) {
-        Some(words) => replay.compare(question, &words),
-        None => {
-            replay.input.skip(3);
-            replay.no_question();
-        }
-    }
+    ask(replay, question, x, y);
 }
 
 fn main(rt: HostRuntime) -> io::Result<()> {

@@ -4,9 +4,7 @@
 
 use bode::Reading;
 use std::{array, io};
-use sweep::FreqError;
 use vectors::Replay;
-use wire::f64_to_bits;
 
 const QUESTIONS: [(u64, &str); 9] = [
     (1, "gain_crossover_frequency"),
@@ -22,16 +20,6 @@ const QUESTIONS: [(u64, &str); 9] = [
 
 // The words of an answer: its number, and the bits of its value.
 const ANSWER: usize = 2;
-
-// Compares an answer to a question.
-fn compare(replay: &mut Replay, question: u64, answer: Result<Option<f64>, FreqError>) {
-    let words = match answer {
-        Ok(Some(x)) => [0, f64_to_bits(x)],
-        Ok(None) => [100, 0],
-        Err(e) => [e.number() as u64, 0],
-    };
-    replay.compare(question, &words);
-}
 
 fn float_at(list: &[f64], i: usize) -> f64 {
     list.get(i).copied().unwrap_or(0.0)
@@ -51,30 +39,30 @@ fn ask_readings(replay: &mut Replay, omega: &[f64], db: &[f64], phase: &[f64]) {
     let n = omega.len();
     if n <= 5000 && db.len() == n && phase.len() == n {
         let rs = readings(omega, db, phase);
-        compare(replay, 8, bode::gain_crossover_readings(&rs[..n]));
+        replay.compare_value(8, bode::gain_crossover_readings(&rs[..n]));
     } else {
         replay.input.skip(ANSWER);
     }
 }
 
 fn ask_bode(replay: &mut Replay, omega: &[f64], db: &[f64], phase: &[f64]) {
-    compare(replay, 1, bode::gain_crossover_frequency(omega, db, phase));
-    compare(replay, 2, bode::phase_crossover_frequency(omega, db, phase));
-    compare(replay, 3, bode::gain_margin(omega, db, phase));
-    compare(replay, 4, bode::phase_margin(omega, db, phase));
+    replay.compare_value(1, bode::gain_crossover_frequency(omega, db, phase));
+    replay.compare_value(2, bode::phase_crossover_frequency(omega, db, phase));
+    replay.compare_value(3, bode::gain_margin(omega, db, phase));
+    replay.compare_value(4, bode::phase_margin(omega, db, phase));
     ask_readings(replay, omega, db, phase);
 }
 
 // The three answers behind these two are to questions that are not asked here.
 fn ask_sensitivity(replay: &mut Replay, omega: &[f64], s: &[f64], t: &[f64]) {
-    compare(replay, 5, sensitivity::sensitivity_crossover(omega, s, t));
-    compare(replay, 6, sensitivity::bandwidth(omega, s, t));
+    replay.compare_value(5, sensitivity::sensitivity_crossover(omega, s, t));
+    replay.compare_value(6, sensitivity::bandwidth(omega, s, t));
     replay.input.skip(3 * ANSWER);
 }
 
 // Nor are the four behind this one.
 fn ask_curve(replay: &mut Replay, re: &[f64], im: &[f64]) {
-    compare(replay, 7, nyquist::distance_to_critical(re, im));
+    replay.compare_value(7, nyquist::distance_to_critical(re, im));
     replay.input.skip(4 * ANSWER);
 }
 

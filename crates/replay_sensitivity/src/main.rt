@@ -2,13 +2,10 @@
 // tools/oracle/README.md has their format.
 #![tactic(auto)]
 
-use complex::Complex;
 use sensitivity::LoopShaping;
 use std::io;
-use sweep::FreqError;
 use transfer_fn::TransferFn;
 use vectors::{Input, Replay};
-use wire::f64_to_bits;
 
 const QUESTIONS: [(u64, &str); 5] = [
     (1, "eval_tf_complex"),
@@ -18,22 +15,13 @@ const QUESTIONS: [(u64, &str); 5] = [
     (5, "control_sensitivity_at"),
 ];
 
-// Compares a response: its number, and the bits of its two parts.
-fn compare(replay: &mut Replay, question: u64, response: Result<Complex, FreqError>) {
-    let words = match response {
-        Ok(z) => [0, f64_to_bits(z.re), f64_to_bits(z.im)],
-        Err(e) => [e.number() as u64, 0, 0],
-    };
-    replay.compare(question, &words);
-}
-
 fn ask(replay: &mut Replay, l: LoopShaping, cosines: &[f64], sines: &[f64]) {
     let plant = transfer_fn::eval_tf_complex(l.plant, cosines, sines);
-    compare(replay, 1, plant);
-    compare(replay, 2, l.loop_gain_at(cosines, sines));
-    compare(replay, 3, l.sensitivity_at(cosines, sines));
-    compare(replay, 4, l.comp_sensitivity_at(cosines, sines));
-    compare(replay, 5, l.control_sensitivity_at(cosines, sines));
+    replay.compare_pair(1, plant);
+    replay.compare_pair(2, l.loop_gain_at(cosines, sines));
+    replay.compare_pair(3, l.sensitivity_at(cosines, sines));
+    replay.compare_pair(4, l.comp_sensitivity_at(cosines, sines));
+    replay.compare_pair(5, l.control_sensitivity_at(cosines, sines));
 }
 
 // The coefficients of a transfer function of a given order.

@@ -8,7 +8,7 @@ use bode::BodeSummary;
 use nyquist::CurveSummary;
 use sensitivity::SensitivitySummary;
 use std::io;
-use sweep::NotKept;
+use sweep::FreqError;
 use vectors::{Input, Replay};
 use wire::f64_to_bits;
 
@@ -24,22 +24,15 @@ const QUESTIONS: [(u64, &str); 9] = [
     (0, "no question"),
 ];
 
-// Compares an answer: its number, and the bits of its value.
-fn compare(replay: &mut Replay, question: u64, crossing: Option<f64>) {
-    let words = match crossing {
-        Some(x) => [0, f64_to_bits(x)],
-        None => [100, 0],
-    };
-    replay.compare(question, &words);
-}
-
-fn compare_kept(replay: &mut Replay, question: u64, kept: Result<Option<f64>, NotKept>) {
-    let words = match kept {
-        Ok(Some(x)) => [0, f64_to_bits(x)],
-        Ok(None) => [100, 0],
-        Err(NotKept) => [101, 0],
-    };
-    replay.compare(question, &words);
+// The number of a feed. The summary is the new one, unless the feed was refused.
+fn put_fed<S: Drop>(summary: &mut S, fed: Result<S, FreqError>) -> u64 {
+    match fed {
+        Ok(new) => {
+            *summary = new;
+            0
+        }
+        Err(e) => e.number() as u64,
+    }
 }
 
 // What a case asks of a summary of one kind.
@@ -68,14 +61,7 @@ impl Summary for BodeSummary {
 
     fn take(&mut self, replay: &mut Replay, omega: &[f64], db: &[f64], phase: &[f64]) {
         let summary = *self;
-        let number = match summary.feed(omega, db, phase) {
-            Ok(new) => {
-                *self = new;
-                0
-            }
-            Err(e) => e.number(),
-        };
-        replay.compare(1, &[number as u64]);
+        replay.compare(1, &[put_fed(self, summary.feed(omega, db, phase))]);
     }
 
     fn with(self, other: Self) -> Self {
@@ -83,8 +69,8 @@ impl Summary for BodeSummary {
     }
 
     fn ask(self, replay: &mut Replay) {
-        compare(replay, 2, self.gain_crossover());
-        compare(replay, 3, self.phase_crossover());
+        replay.compare_value(2, self.gain_crossover());
+        replay.compare_value(3, self.phase_crossover());
     }
 }
 
@@ -97,14 +83,7 @@ impl Summary for SensitivitySummary {
 
     fn take(&mut self, replay: &mut Replay, omega: &[f64], s: &[f64], t: &[f64]) {
         let summary = *self;
-        let number = match summary.feed(omega, s, t) {
-            Ok(new) => {
-                *self = new;
-                0
-            }
-            Err(e) => e.number(),
-        };
-        replay.compare(4, &[number as u64]);
+        replay.compare(4, &[put_fed(self, summary.feed(omega, s, t))]);
     }
 
     fn with(self, other: Self) -> Self {
@@ -112,8 +91,8 @@ impl Summary for SensitivitySummary {
     }
 
     fn ask(self, replay: &mut Replay) {
-        compare(replay, 5, self.crossover());
-        compare_kept(replay, 6, self.bandwidth());
+        replay.compare_value(5, self.crossover());
+        replay.compare_value(6, self.bandwidth());
     }
 }
 
@@ -126,14 +105,7 @@ impl Summary for CurveSummary {
 
     fn take(&mut self, replay: &mut Replay, re: &[f64], im: &[f64], _none: &[f64]) {
         let summary = *self;
-        let number = match summary.feed(re, im) {
-            Ok(new) => {
-                *self = new;
-                0
-            }
-            Err(e) => e.number(),
-        };
-        replay.compare(7, &[number as u64]);
+        replay.compare(7, &[put_fed(self, summary.feed(re, im))]);
     }
 
     fn with(self, other: Self) -> Self {

@@ -9,8 +9,10 @@ ghost use Rattle.std.specs.Prelude.{◌≡◌, ◌<◌, Bool, false, IsErr, IsSo
 ghost use Rattle.vectors.specs.Made.{Made};
 ghost use Rattle.vectors.specs.Tally.{unmarked_of, known_of, one_more, none_asked, begun_with, counted_in};
 
+use places::Answer;
 use std::io::{ErrorKind, Print, Read, Stdin};
 use std::{fmt, io};
+use wire::f64_to_bits;
 
 // Standard input. It ends where a read fails; that error is kept for the end of the program.
 #[derive(Drop)]
@@ -282,6 +284,30 @@ impl Replay {
     {
         let right = self.input.next_are(words);
         self.tally.count(question, right);
+    }
+
+    // Counts an answer with one value: the oracle writes its number, and the bits of its value, or of 0.0 where it has none.
+    pub fn compare_value<A: Answer<Place = f64>>(&mut self, question: u64, answer: A)
+        ensures ended { IsSome self.old.input.failed → self.new.input ≡ self.old.input }
+        ensures counted { (right : Bool) × (self.new.tally ≡ counted_in self.old.tally question right) }
+    {
+        let mut value = 0.0;
+        let number = answer.put(&mut value);
+        self.compare(question, &[number as u64, f64_to_bits(value)]);
+    }
+
+    // Counts an answer with two values, as one with one. (Each is three lines, of which two name the place: one function of both
+    // would need a trait of places, and be no shorter.)
+    pub fn compare_pair<A: Answer<Place = [f64; 2]>>(&mut self, question: u64, answer: A)
+        ensures ended { IsSome self.old.input.failed → self.new.input ≡ self.old.input }
+        ensures counted { (right : Bool) × (self.new.tally ≡ counted_in self.old.tally question right) }
+    {
+        let mut pair = [0.0, 0.0];
+        let number = answer.put(&mut pair);
+        self.compare(
+            question,
+            &[number as u64, f64_to_bits(pair[0]), f64_to_bits(pair[1])],
+        );
     }
 
     // Counts what asks nothing.
