@@ -112,14 +112,15 @@ fn every_number_is_in_the_table() {
 #[test]
 fn every_refusal_of_the_library() {
     let source = fs::read_to_string(root().join("crates/sweep/src/lib.rt")).unwrap();
-    let arms = source.lines().filter_map(|line| {
-        let arm = line.trim().strip_prefix("FreqError::")?;
-        let (name, number) = arm.strip_suffix(',')?.split_once(" => ")?;
+    let (_, rest) = source.split_once("pub enum FreqError {").unwrap();
+    let (cases, _) = rest.split_once('}').unwrap();
+    let cases = cases.lines().filter_map(|line| {
+        let (name, number) = line.trim().strip_suffix(',')?.split_once(" = ")?;
         Some((number.parse().ok()?, name.to_string()))
     });
     let refusals = (0..=1000).filter_map(Refusal::from_number);
     let expected = refusals.map(|refusal| (refusal.number(), format!("{refusal:?}")));
-    assert_eq!(arms.collect::<BTreeMap<u32, String>>(), expected.collect());
+    assert_eq!(cases.collect::<BTreeMap<u32, String>>(), expected.collect());
 }
 
 /// The library's endings and numbers are the header's.
