@@ -18,11 +18,14 @@ pub struct TransferFn {
     pub order: usize,
 }
 
-// The pairs of a frequency: cosine and sine of -(ω * k) at place k.
+// The pairs of a frequency: cosine and sine of -(ω * k) at place k, for k up to `order`.
 #[derive(Clone, Copy)]
 struct Pairs<'a> {
+    order: usize,
     cosines: &'a [f64],
     sines: &'a [f64],
+    ghost few: { order ≤ 8 },
+    ghost enough: { order < length cosines.now },
     ghost same: { length cosines.now ≡ length sines.now },
 }
 
@@ -31,7 +34,7 @@ impl<'a> Pairs<'a> {
     #[tactic(auto, unfolding(crate::specs::Evaluation::evaluation_refusal))]
     fn new(order: usize, cosines: &'a [f64], sines: &'a [f64]) -> Result<Pairs<'a>, FreqError>
         ensures refusal { refusal_of result ≡ evaluation_refusal order (length cosines.now) (length sines.now) }
-        ensures pairs { IfOk result (λ p. (p.cosines.now ≡ cosines.now) × (p.sines.now ≡ sines.now) × (order ≤ 8) × (order < length cosines.now)) }
+        ensures pairs { IfOk result (λ p. (p.order ≡ order) × (p.cosines.now ≡ cosines.now) × (p.sines.now ≡ sines.now)) }
     {
         if 8 < order {
             return Err(FreqError::WrongOrder);
@@ -42,12 +45,16 @@ impl<'a> Pairs<'a> {
         if cosines.len() <= order {
             return Err(FreqError::TooFewPairs);
         }
-        Ok(Pairs { cosines, sines })
+        Ok(Pairs {
+            order,
+            cosines,
+            sines,
+        })
     }
 
     // `start` and the first n coefficients, each times its pair; coefficient 0 has the pair `first`.
     fn sum(self, start: f64, coefficients: &[f64; 8], n: usize, first: usize) -> Complex
-        requires { (n ≤ 8) × (first ≤ 1) × (n + first ≤ length self.cosines.now) }
+        requires { (n ≤ self.order) × (first ≤ 1) }
         ensures { result ≡ pair_sum start coefficients.now n self.entry.cosines.now self.entry.sines.now first }
     {
         let mut re = start;
@@ -62,7 +69,7 @@ impl<'a> Pairs<'a> {
     // The value of `tf` there.
     #[tactic(auto, unfolding(crate::specs::Evaluation::value_at, crate::specs::Evaluation::numerator, crate::specs::Evaluation::denominator))]
     fn value_of(self, tf: TransferFn) -> Complex
-        requires { (tf.order ≤ 8) × (tf.order < length self.cosines.now) }
+        requires { tf.order ≤ self.order }
         ensures { result ≡ value_at tf self.entry.cosines.now self.entry.sines.now }
     {
         let b = tf.b;
