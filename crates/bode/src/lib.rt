@@ -140,7 +140,7 @@ impl Crossing<Reading> for PhaseMargin {
 }
 
 // The frequency where the magnitude first crosses 0 dB. (This and the next are two lines each, of which one names what differs:
-// one function of both would be no shorter. So are the margins.)
+// one function of both would be no shorter.)
 #[tactic(auto, unfolding(sweep::specs::Scan::scanned_by, crate::specs::Bode::gain_crossover), using(sweep::proofs::Answers::scan_turned_away, sweep::proofs::Answers::scan_let_through))]
 pub fn gain_crossover_frequency(
     omega: &[f64],
@@ -166,7 +166,8 @@ pub fn phase_crossover_frequency(
     Ok(sweep::first_crossing(&sweep, &Phase))
 }
 
-// The gain margin in dB: the negated magnitude at the phase crossover.
+// The gain margin in dB: the negated magnitude at the phase crossover. (This and the next are five lines each, of which two name
+// what differs: one function of both, passed a crossing and a closure that makes another, would be longer.)
 #[tactic(auto, unfolding(sweep::specs::Scan::scanned_by, crate::specs::Bode::phase_crossover, crate::specs::Bode::gain_margin, crate::specs::Bode::margin_at), using(sweep::proofs::Answers::scan_turned_away, sweep::proofs::Answers::scan_let_through))]
 pub fn gain_margin(omega: &[f64], db: &[f64], phase: &[f64]) -> Result<Option<f64>, FreqError>
     ensures { outcome_of result ≡ scanned_by reading gain_margin omega.now db.now phase.now }

@@ -1,4 +1,4 @@
-// A curve: the points whose real and imaginary parts stand in two lists of one length.
+// A curve: the points whose real and imaginary parts stand in two lists of one length. (The Rust and the C interface lend them so.)
 ghost use Rattle.std.specs.Prelude.{◌≡◌, length, IfOk};
 ghost use Rattle.sweep.specs.Refusal.{refusal_of};
 ghost use Rattle.nyquist.specs.Curve.{points, point_square, least_square, curve_refusal};
@@ -9,7 +9,7 @@ use sweep::FreqError;
 
 // The square of the distance of z from (-1, 0).
 #[tactic(auto, unfolding(crate::specs::Curve::point_square, crate::specs::Curve::from_critical, complex::specs::Complex::magnitude_sq))]
-pub fn point_square(z: Complex) -> f64
+pub(crate) fn point_square(z: Complex) -> f64
     ensures { result ≡ point_square z }
 {
     let dr = z.re - -1.0;
@@ -17,16 +17,16 @@ pub fn point_square(z: Complex) -> f64
 }
 
 #[derive(Clone, Copy)]
-pub struct Curve<'a> {
+pub(crate) struct Curve<'a> {
     re: &'a [f64],
     im: &'a [f64],
-    pub ghost same: { length re.now ≡ length im.now },
+    ghost same: { length re.now ≡ length im.now },
 }
 
 impl<'a> Curve<'a> {
     // The lists as a curve, where they meet the conditions of a scan.
     #[tactic(auto, unfolding(crate::specs::Curve::curve_refusal), using(crate::proofs::Scan::same_length))]
-    pub fn new(re: &'a [f64], im: &'a [f64]) -> Result<Curve<'a>, FreqError>
+    pub(crate) fn new(re: &'a [f64], im: &'a [f64]) -> Result<Curve<'a>, FreqError>
         ensures refusal { refusal_of result ≡ curve_refusal re.now im.now }
         ensures lists { IfOk result (λ c. (c.re.now ≡ re.now) × (c.im.now ≡ im.now)) }
     {
@@ -35,7 +35,7 @@ impl<'a> Curve<'a> {
     }
 
     // The least of the squares, and infinity where none is finite.
-    pub fn least_square(&self) -> f64
+    pub(crate) fn least_square(&self) -> f64
         ensures { result ≡ least_square (points self.now.re.now self.now.im.now) }
     {
         let mut least = f64::INFINITY;
@@ -61,7 +61,7 @@ impl<'a> Curve<'a> {
 
     // The nearest point. The least square of each block shows the first block that has the least of all, and only there
     // is the point looked for: a scan for the least alone is quicker.
-    pub fn nearest(&self) -> Option<Complex>
+    pub(crate) fn nearest(&self) -> Option<Complex>
         ensures { result ≡ nearest_of (points self.now.re.now self.now.im.now) }
     {
         let mut lowest = f64::INFINITY;

@@ -375,13 +375,14 @@ pub fn locus_point(
     })
 }
 
-// Writes the n gains into the first n places of the list.
+// Writes the n gains into the first n places of the list. (The grid of frequencies says why each has a function.)
+#[tactic(auto, unfolding(crate::specs::Gain::gain_outcome, crate::specs::Gain::gain_grid), using(laws::proofs::Loops::filled_none, laws::proofs::Loops::filled_more, sweep::proofs::Answers::grid_let_through, sweep::proofs::Grids::grid_two, sweep::proofs::Grids::grid_most, sweep::proofs::Grids::grid_fits, sweep::proofs::Grids::grid_places, sweep::proofs::Grids::grid_filled))]
 pub fn fill_gain_grid(k_max: f64, n: usize, list: &mut [f64]) -> Result<(), FreqError>
     ensures { (outcome_of_grid result ≡ gain_outcome k_max n list.old) × (list.new ≡ gain_grid k_max n list.old) }
 {
     sweep::check_grid(FreqError::InvalidParameter, n, k_max, list.len())?;
-    for i in 0..n {
-        list[i] = gain_at(k_max, n, i);
+    for (i, place) in list[..n].iter_mut().enumerate() {
+        *place = gain_at(k_max, n, i);
     }
     Ok(())
 }

@@ -192,7 +192,7 @@ impl sweep::Crossing<Reading> for LevelDrop {
     }
 }
 
-// The frequency where |S| and |T| are first equal.
+// The frequency where |S| and |T| are first equal. (Two lines, as bode's crossovers, of which one names what differs.)
 #[tactic(auto, unfolding(crate::specs::Scans::sensitivity_crossover, sweep::specs::Scan::scanned_by), using(sweep::proofs::Answers::scan_turned_away, sweep::proofs::Answers::scan_let_through))]
 pub fn sensitivity_crossover(omega: &[f64], s: &[f64], t: &[f64]) -> Result<Option<f64>, FreqError>
     ensures { answer.outcome_of result ≡ scanned_by reading sensitivity_crossover omega.now s.now t.now }

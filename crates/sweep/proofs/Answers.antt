@@ -1,15 +1,14 @@
 -- An answer is known by its outcome, and a scan's outcome by its conditions. Assumes nothing.
 use Prim.Native.Nat.{ℕ, ◌<◌}
-use mathlib.Core.Path.{◌≡◌, refl, sym, ap, ◌∙◌}
+use mathlib.Core.Path.{◌≡◌, refl, sym}
 use mathlib.Core.List.{List, [], ◌∷◌}
 use native.Mathlib.Omega.{arith}
 use borrow.Author.Tests.{ne_eqb}
 use lib.Ieee.{Float}
 use Rattle.std.specs.Prelude.{Option, Some, None, Result, Ok, Err}
-use Rattle.laws.specs.Loops.{filled}
 use Rattle.laws.specs.Outcome.{found, none, refused, answered, Answers}
 use Rattle.laws.proofs.Outcome.{found_values, option_known, result_known}
-use Rattle.sweep.specs.Refusal.{number_of, refusal_of}
+use Rattle.sweep.specs.Refusal.{number_of}
 use Rattle.sweep.specs.Answer.{outcome_of, crossing_outcome, kept_outcome, scanned, outcome_of_grid, gridded}
 use Rattle.sweep.specs.declared.FreqError.{FreqError}
 use Rattle.sweep.specs.declared.NotKept.{NotKept}
@@ -68,19 +67,6 @@ pub not_zero : (e : FreqError) → number_of e ≡ 0 → ⊥
 not_zero e h =
     let p = number_above e in omega arith
 
--- ---- the two answers of a filler, whose conditions gave n: the answer, and the lent list
-module _ {k : Result (Unit {0}) FreqError} {n : ℕ} (given : refusal_of k ≡ n) (g : ℕ → Float) (count : ℕ) (l : List Float) where
-  pub grid_filled : {x : Unit {0}} {m : List Float} → k ≡ Ok x → m ≡ filled g l count → (outcome_of_grid (Ok tt) ≡ answered n []) × (m ≡ gridded n g count l)
-  unfolding outcome_of_grid gridded answered
-  grid_filled h e = let z : n ≡ 0 = sym given ∙ ap refusal_of h in (rw z, rw (z, e))
-
-  pub grid_refused : {e : FreqError} → k ≡ Err e → (outcome_of_grid (Err e) ≡ answered n []) × (l ≡ gridded n g count l)
-  unfolding outcome_of_grid gridded answered
-  grid_refused {e} h =
-      let is : n ≡ number_of e = sym given ∙ ap refusal_of h in
-      let no_zero = ne_eqb (number_of e) 0 (not_zero e) in
-      (rw is (rw no_zero), rw is (rw no_zero))
-
 -- ---- what a call comes to that hands a refusal on, or that was let through; n is what its conditions gave
 
 module _ {n : ℕ} (e : FreqError) (h : number_of e ≡ n) where
@@ -92,6 +78,11 @@ module _ {n : ℕ} (e : FreqError) (h : number_of e ≡ n) where
   unfolding outcome_of scanned
   scan_turned_away c = rw (← h) (rw (ne_eqb (number_of e) 0 (not_zero e)))
 
+  -- a filler's answer, and the lent list
+  pub grid_turned_away : (g : ℕ → Float) (count : ℕ) (l : List Float) → (outcome_of_grid (Err e) ≡ answered n []) × (l ≡ gridded n g count l)
+  unfolding outcome_of_grid gridded
+  grid_turned_away g count l = (refusal_handed_on [], rw (← h) (rw (ne_eqb (number_of e) 0 (not_zero e))))
+
 module _ {n : ℕ} (h : 0 ≡ n) where
   pub values_found : (values : List Float) → found values ≡ answered n values
   unfolding answered
@@ -100,3 +91,7 @@ module _ {n : ℕ} (h : 0 ≡ n) where
   pub scan_let_through : (c : Option Float) → outcome_of (Ok c) ≡ scanned n c
   unfolding outcome_of scanned
   scan_let_through c = rw (← h)
+
+  pub grid_let_through : outcome_of_grid (Ok tt) ≡ answered n []
+  unfolding outcome_of_grid
+  grid_let_through = values_found []

@@ -66,9 +66,13 @@ unfoldable pub between : Float → Float → Float → Float → Float
 between w0 w1 rise span =
     cond (lt (abs_of span) eps) w0 (add binary64 w0 (mul binary64 (div binary64 rise span) (sub binary64 w1 w0)))
 
--- ---- lists of numbers as readings
+-- ---- lists of numbers as readings: f makes one
 
--- the readings of three lists, as far as the shortest goes: f makes one
+-- a reading of zeros
+abbrev pub zeros : {R : Type 0} → (Float → Float → Float → R) → R
+zeros f = f f0 f0 f0
+
+-- the readings of three lists, as far as the shortest goes
 abbrev pub zip3 : {R : Type 0} → (Float → Float → Float → R) → List Float → List Float → List Float → List R
 zip3 f [] ys zs = []
 zip3 f (x ∷ xs) [] zs = []

@@ -1,6 +1,6 @@
 // The first and the last reading of a sweep, which are what it shows to another one that comes behind it.
 ghost use Rattle.std.specs.Prelude.{◌≡◌, []};
-ghost use Rattle.scalar.specs.Scalar.{f0};
+ghost use Rattle.sweep.specs.Scan.{zeros};
 ghost use Rattle.sweep.specs.Ends.{ends_of, ends_behind, crossing_between};
 
 use super::{Crossing, Reading, Readings};
@@ -17,18 +17,18 @@ pub struct Ends<R> {
 impl<R: Reading> Ends<R> {
     // Of no readings.
     pub fn none() -> Ends<R>
-        ensures { result ≡ ends_of (R.reading f0 f0 f0) [] }
+        ensures { result ≡ ends_of (zeros R.reading) [] }
     {
         Ends {
             read: false,
-            first: R::new(0.0, 0.0, 0.0),
-            last: R::new(0.0, 0.0, 0.0),
+            first: R::zeros(),
+            last: R::zeros(),
         }
     }
 
     // Of a sweep.
     pub fn of<S: Readings<R>>(sweep: &S) -> Ends<R>
-        ensures { result ≡ ends_of (R.reading f0 f0 f0) (S.readings sweep.now) }
+        ensures { result ≡ ends_of (zeros R.reading) (S.readings sweep.now) }
     {
         let n = sweep.len();
         Ends {

@@ -8,8 +8,7 @@ mod lists;
 ghost use Rattle.std.specs.Prelude.{◌≡◌, Option, Float, List, length, get_or};
 ghost use Rattle.sweep.specs.Refusal.{number_of, refusal_of, scan_refusal, grid_refusal};
 ghost use Rattle.sweep.specs.Plain.{kept_mark, kept_value, marked_kept};
-ghost use Rattle.sweep.specs.Scan.{crosses_zero, crosses_level, drops_below, encloses, between, or_else, first_pair};
-ghost use Rattle.scalar.specs.Scalar.{f0};
+ghost use Rattle.sweep.specs.Scan.{crosses_zero, crosses_level, drops_below, encloses, between, or_else, first_pair, zeros};
 
 pub use ends::Ends;
 pub use lists::Lists;
@@ -79,6 +78,12 @@ pub trait Reading: Copy {
 
     fn new(omega: f64, first: f64, second: f64) -> Self
         ensures { result ≡ reading omega first second };
+
+    fn zeros() -> Self
+        ensures { result ≡ zeros reading }
+    {
+        Self::new(0.0, 0.0, 0.0)
+    }
 }
 
 // Readings in a row. Past the last one lies a reading of zeros.
@@ -89,7 +94,7 @@ pub trait Readings<R: Reading> {
         ensures { result ≡ length (readings self.now) };
 
     fn at(&self, i: usize) -> R
-        ensures { result ≡ get_or (readings self.now) i (R.reading f0 f0 f0) };
+        ensures { result ≡ get_or (readings self.now) i (zeros R.reading) };
 }
 
 impl<R: Reading> Readings<R> for &[R] {
@@ -103,7 +108,7 @@ impl<R: Reading> Readings<R> for &[R] {
         if i < (*self).len() {
             return self[i];
         }
-        R::new(0.0, 0.0, 0.0)
+        R::zeros()
     }
 }
 
@@ -115,7 +120,7 @@ pub trait Crossing<R> {
         ensures { result ≡ pair self.now a b };
 }
 
-// The first crossing among neighbours.
+// The first crossing among neighbours. (By place, which is how the trait lends a reading.)
 #[tactic(auto, using(crate::proofs::Scans::pair_next, crate::proofs::Scans::pair_found, crate::proofs::Scans::pairs_done))]
 pub fn first_crossing<R: Reading, S: Readings<R>, C: Crossing<R>>(
     sweep: &S,

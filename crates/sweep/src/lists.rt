@@ -1,6 +1,5 @@
-// Three lists of one length: the frequencies of a sweep, and two values at each.
+// Three lists of one length: the frequencies of a sweep, and two values at each. (The Rust and the C interface lend them so.)
 ghost use Rattle.std.specs.Prelude.{◌≡◌, length, get_or, IfOk};
-ghost use Rattle.scalar.specs.Scalar.{f0};
 ghost use Rattle.sweep.specs.Refusal.{SameLength, refusal_of, lists_refusal};
 ghost use Rattle.sweep.specs.Scan.{zip3};
 
@@ -47,6 +46,6 @@ impl<R: Reading> Readings<R> for Lists<'_> {
         if i < self.omega.len() {
             return R::new(self.omega[i], self.first[i], self.second[i]);
         }
-        R::new(0.0, 0.0, 0.0)
+        R::zeros()
     }
 }

@@ -18,7 +18,8 @@ pub struct TransferFn {
     pub order: usize,
 }
 
-// The pairs of a frequency: cosine and sine of -(ω * k) at place k, for k up to `order`.
+// The pairs of a frequency: cosine and sine of -(ω * k) at place k, for k up to `order`. (Two lists, as the C interface lends
+// them.)
 #[derive(Clone, Copy)]
 struct Pairs<'a> {
     order: usize,
@@ -52,7 +53,8 @@ impl<'a> Pairs<'a> {
         })
     }
 
-    // `start` and the first n coefficients, each times its pair; coefficient 0 has the pair `first`.
+    // `start` and the first n coefficients, each times its pair; coefficient 0 has the pair `first`. (By place: three lists, two
+    // of them from `first` on, zipped in two steps would be no plainer.)
     fn sum(self, start: f64, coefficients: &[f64; 8], n: usize, first: usize) -> Complex
         requires { (n ≤ self.order) × (first ≤ 1) }
         ensures { result ≡ pair_sum start coefficients.now n self.entry.cosines.now self.entry.sines.now first }
