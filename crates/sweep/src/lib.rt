@@ -145,10 +145,7 @@ pub fn crossing_from<R: Reading, S: Readings<R>, C: Crossing<R>>(
 ) -> Option<f64>
     ensures { result ≡ or_else found (first_pair (C.pair crossing.now) (S.readings sweep.now)) }
 {
-    match found {
-        Some(_) => found,
-        None => first_crossing(sweep, crossing),
-    }
+    found.or_else(|| first_crossing(sweep, crossing))
 }
 
 // Whether one of a and b is at or above 0, and the other at or below. Most neighbours in a sweep lie on one side of 0,
