@@ -1,21 +1,21 @@
 -- The coefficients of the loop polynomial, and those of a polynomial from the first that counts. Assumes nothing.
-use Rattle.std.proofs.Common.{◌≡◌, ℕ, ◌+◌, ◌-◌, ◌<◌, ◌≤◌, Bool, true, false, cond, List, [], ◌∷◌, length, get_or, take, drop, refl, ◌∙◌, arith, length-drop, drop_of_length-le, take_all, ltb, le-ltb, lt-ltb, ltb-false, ne_eqb}
+use Rattle.std.proofs.Common.{◌≡◌, ℕ, ◌+◌, ◌-◌, ◌<◌, ◌≤◌, Bool, true, false, cond, List, [], ◌∷◌, length, get_or, set, take, drop, refl, ◌∙◌, arith, length-drop, drop_of_length-le, take_all, ltb, le-ltb, lt-ltb, ltb-false, ne_eqb, lit<}
 use native.Mathlib.Numerals.{one-add}
 use Rattle.std.specs.Prelude.{not, Option, Some, None}
 use Rattle.std.specs.Option.{unwrap_or}
 use Rattle.std.specs.List.{position_or_len}
 use lib.Ieee.{Float, nan, binary64, add, mul, lt}
 use Rattle.laws.specs.Loops.{filled}
-use Rattle.laws.proofs.Loops.{take-filled}
+use Rattle.laws.proofs.Loops.{filled_none, filled_more, take-filled}
 use Rattle.scalar.specs.Scalar.{f1, eps, abs_of}
 use Rattle.transfer_fn.specs.declared.TransferFn.{TransferFn}
 use Rattle.root_locus.specs.Polynomial.{coefficient, nine_zeros, loop_polynomial, counting}
 
--- the three kinds of coefficients
+-- the three kinds of coefficients, the first in its place
 module _ (tf : TransferFn) (k : Float) where
-  pub coefficient_first : add binary64 f1 (mul binary64 k (get_or tf.b 0 nan)) ≡ coefficient tf k 0
+  pub coefficient_first : set nine_zeros 0 (add binary64 f1 (mul binary64 k (get_or tf.b 0 nan))) ≡ filled (coefficient tf k) nine_zeros 1
   unfolding coefficient
-  coefficient_first = refl
+  coefficient_first = filled_more _ nine_zeros (filled_none _ nine_zeros) (lit< tt) refl
 
   pub coefficient_middle : (i : ℕ) → 1 ≤ i → i < tf.order → add binary64 (get_or tf.a (i - 1) nan) (mul binary64 k (get_or tf.b i nan)) ≡ coefficient tf k i
   unfolding coefficient

@@ -1,5 +1,6 @@
 -- The rule of the table of starting points, by one test that is computed over the whole table. Assumes nothing.
-use Rattle.std.proofs.Common.{ℕ, ◌+◌, ◌^◌, ◌<◌, ◌≤◌, Bool, ◌&&◌, T, leb, List, [], get_or, arith, leb→le}
+use Rattle.std.proofs.Common.{◌≡◌, ℕ, ◌+◌, ◌^◌, ◌<◌, ◌≤◌, Bool, ◌&&◌, T, leb, List, [], length, get_or, take, drop, arith, leb→le, length-take, length-drop, get_or-take}
+use Rattle.std.proofs.lemmas.List.{get_or-drop}
 use lib.Ieee.{Float, of_bits}
 use lib.Ieee.Fits.{and_l, and_r}
 use lib.Ieee.Scale.{finite}
@@ -49,3 +50,11 @@ first_fits d h = grind arith
 pub starts_near_unit : (d i : ℕ) → d ≤ 8 → i < d → NearUnit (starting_point d i)
 unfolding starting_point
 starts_near_unit d i h k = let f = first_fits d h in near_unit (first_point d + i) (omega arith)
+
+-- ---- a degree's pairs as a part of the table
+pub degree_pairs : (d : ℕ) → d ≤ 8 → length (take d (drop (first_point d) start_table)) ≡ d
+unfolding start_table
+degree_pairs d h = let f = first_fits d h in simp (length-take, length-drop) (omega arith)
+
+pub degree_pair : (d i : ℕ) → i < d → get_or (take d (drop (first_point d) start_table)) i [] ≡ get_or start_table (first_point d + i) []
+degree_pair d i k = rw (get_or-take d (drop (first_point d) start_table) i [] k) (get_or-drop (first_point d) start_table i [])

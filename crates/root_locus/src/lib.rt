@@ -4,13 +4,13 @@
 
 mod ending;
 
-ghost use Rattle.std.specs.Prelude.{◌≡◌, ◌+◌, ◌<◌, ◌≤◌, ◌∷◌, length};
+ghost use Rattle.std.specs.Prelude.{◌≡◌, ◌+◌, ◌<◌, ◌≤◌, ◌∷◌, length, take, drop};
 ghost use Rattle.laws.specs.Loops.{filled};
 ghost use Rattle.sweep.specs.Refusal.{refusal_of};
 ghost use Rattle.sweep.specs.Answer.{outcome_of_grid};
 ghost use Rattle.root_locus.specs.Gain.{gain_at, gain_outcome, gain_grid};
 ghost use Rattle.root_locus.specs.Polynomial.{coefficient, nine_zeros, loop_polynomial, counting};
-ghost use Rattle.root_locus.specs.StartingPoints.{first_point, starting_points};
+ghost use Rattle.root_locus.specs.StartingPoints.{start_table, first_point, starting_points};
 ghost use Rattle.root_locus.specs.Search.{eval_poly, begun, run};
 ghost use Rattle.root_locus.specs.Ending.{end_of};
 ghost use Rattle.root_locus.specs.Roots.{linear, quadratic, searched, search_end, padded, as_roots, degree_cases};
@@ -88,32 +88,30 @@ impl Roots {
     }
 }
 
-// Where a degree's pairs begin in the table: 4 + 5 + .. up to the degree below, written out, which is plainer than the sum.
-#[tactic(auto, unfolding(crate::specs::StartingPoints::first_point))]
-fn first_point(degree: usize) -> usize
+// The pairs of a degree. (Below 4 nothing is searched for.)
+#[tactic(auto, unfolding(crate::specs::StartingPoints::start_table, crate::specs::StartingPoints::pair, crate::specs::StartingPoints::first_point))]
+fn start(degree: usize) -> &'static [[f64; 2]]
     requires { degree ≤ 8 }
-    ensures { (result ≡ first_point degree) × (result + degree ≤ 30) }
+    ensures { result.now ≡ take degree (drop (first_point degree) start_table) }
 {
     match degree {
-        8 => 22,
-        7 => 15,
-        6 => 9,
-        5 => 4,
-        _ => 0,
+        8 => &START[22..],
+        7 => &START[15..22],
+        6 => &START[9..15],
+        5 => &START[4..9],
+        _ => &START[..degree],
     }
 }
 
 // The starting points of a degree.
-#[tactic(auto, unfolding(crate::specs::StartingPoints::starting_points, crate::specs::StartingPoints::starting_point, crate::specs::StartingPoints::start_table, crate::specs::StartingPoints::pair, crate::specs::StartingPoints::as_complex), using(laws::proofs::Loops::filled_none, laws::proofs::Loops::filled_more, laws::proofs::Loops::arrived, crate::proofs::Padding::filled_padded))]
+#[tactic(auto, unfolding(crate::specs::StartingPoints::starting_points, crate::specs::StartingPoints::starting_point, crate::specs::StartingPoints::as_complex), using(laws::proofs::Loops::filled_none, laws::proofs::Loops::filled_more, laws::proofs::Loops::arrived, crate::proofs::Padding::filled_padded, crate::proofs::Table::degree_pairs, crate::proofs::Table::degree_pair))]
 fn starting_points(degree: usize) -> [Complex; 8]
     requires { degree ≤ 8 }
     ensures { result ≡ padded (starting_points degree) }
 {
-    let first = first_point(degree);
     let mut z = [Complex::from_real(0.0); 8];
-    for i in 0..degree {
-        let [cosine, sine] = START[first + i];
-        z[i] = Complex::new(cosine, sine);
+    for (i, [cosine, sine]) in start(degree).iter().enumerate() {
+        z[i] = Complex::new(*cosine, *sine);
     }
     z
 }
@@ -268,8 +266,9 @@ struct OpenLoop {
 }
 
 impl OpenLoop {
-    // The loop polynomial at gain k, and zeros past its order.
-    #[tactic(auto, using(laws::proofs::Loops::filled_none, laws::proofs::Loops::filled_more, laws::proofs::Loops::arrived, crate::proofs::Coefficients::coefficient_first, crate::proofs::Coefficients::coefficient_middle, crate::proofs::Coefficients::coefficient_last))]
+    // The loop polynomial at gain k, and zeros past its order. (The loop goes by places: the check knows nothing of an array
+    // after `iter_mut().zip(..)`, and a zip of a and b alone would still count the places of the polynomial.)
+    #[tactic(auto, using(laws::proofs::Loops::filled_more, laws::proofs::Loops::arrived, crate::proofs::Coefficients::coefficient_first, crate::proofs::Coefficients::coefficient_middle, crate::proofs::Coefficients::coefficient_last))]
     fn loop_polynomial(&self, k: f64) -> [f64; 9]
         ensures { result ≡ filled (coefficient self.now.tf k) nine_zeros (self.now.tf.order + 1) }
     {

@@ -47,7 +47,8 @@ none_above (fin true m e) h = refl
 none_above (fin false zero e) h = refl
 none_above (fin false (suc m) e) h = absurd (grind (arith, up_pos))
 
-pub special_below : (x : Float) → lt x (of_bits binary64 0) ≡ true → sqrt_of x ≡ nan
+-- (the pattern is `f64::NAN`'s)
+pub special_below : (x : Float) → lt x (of_bits binary64 0) ≡ true → sqrt_of x ≡ of_bits binary64 0x7ff8_0000_0000_0000
 unfolding lt of_bits sqrt_of
 special_below nan h = refl
 special_below (inf true) h = refl

@@ -4,6 +4,7 @@ use mathlib.Core.Logic.{inl, inr}
 use Prim.Native.Nat.{ℕ, ◌+◌, ◌-◌, ◌*◌, ◌/◌, ◌%◌, ◌^◌, ◌≤◌, ◌<◌}
 use native.Mathlib.Nat.{mul-le-mul, mul-mul-mul_comm, mul_right_comm, eq-zero-or-pos, div-lt_iff_lt-mul, div-add-mod', mod-lt}
 use native.Mathlib.Omega.{arith}
+use Rattle.scalar.specs.declared.Above.{Above}
 use Rattle.scalar.proofs.Squares.{square_next}
 use Rattle.scalar.proofs.WholeRoot.{Digits, digits_down, digits_up}
 
@@ -21,9 +22,15 @@ nearest_is m r lo hi a b = elim (eq-zero-or-pos (r * r - m * 2 ^ 52)) [
 ]
 
 -- ---- from 31 digits to 53, by one division: (s * 2 ^ 22 - k) ^ 2 against m * 2 ^ 52
-module _ (m s excess : ℕ) (digits : (2 ^ 52 ≤ m) × (m ≤ 2 ^ 54 - 2)) (close : excess ≤ 27 * s) (above : m * 256 + excess ≡ s * s) where
+module _ (a : Above) where
+  abbrev m : ℕ
+  m = a.radicand.significand
+
+  abbrev s : ℕ
+  s = a.root
+
   abbrev over : ℕ
-  over = excess * 2 ^ 21
+  over = a.excess * 2 ^ 21
 
   abbrev k : ℕ
   k = over / s
@@ -31,44 +38,44 @@ module _ (m s excess : ℕ) (digits : (2 ^ 52 ≤ m) × (m ≤ 2 ^ 54 - 2)) (clo
   abbrev root : ℕ
   root = s * 2 ^ 22 - k
 
+  abbrev d : ℕ
+  d = over % s * 2 ^ 23 + k * k
+
   s_low : 2 ^ 30 ≤ s
-  s_low = grind arith
+  s_low = grind (arith, a.radicand.digits, a.exact)
 
   s_high : s < 2 ^ 32
-  s_high = grind arith
+  s_high = grind (arith, a.radicand.digits, a.close, a.exact)
 
   s_pos : 0 < s
   s_pos = omega (arith, s_low)
 
-  pub record Last : Type 0 where
-    pub low : 2 ^ 30 ≤ s
-    pub high : s < 2 ^ 32
-    pub rest : over % s < s
-    pub small : k ≤ 27 * 2 ^ 21
-    pub square : k * k ≤ 729 * 2 ^ 42
-    pub exact : root * root ≡ m * 2 ^ 52 + (over % s * 2 ^ 23 + k * k)
+  k_small : k ≤ 27 * 2 ^ 21
+  k_small = omega (arith, (div-lt_iff_lt-mul {k = s} {x = over} {y = 27 * 2 ^ 21 + 1} s_pos).1 (omega (arith, s_pos, a.close)))
 
-  pub last : Last
-  last =
-      let k_small : k ≤ 27 * 2 ^ 21 = omega (arith, (div-lt_iff_lt-mul {k = s} {x = over} {y = 27 * 2 ^ 21 + 1} s_pos).1 (omega (arith, s_pos))) in
-      let parts : root + k ≡ s * 2 ^ 22 = omega (arith, s_low) in
+  pub square_small : k * k ≤ 729 * 2 ^ 42
+  square_small = mul-le-mul k_small k_small
+
+  rest_small : over % s < s
+  rest_small = mod-lt over s_pos
+
+  pub excess_small : d ≤ 2 ^ 55 + 729 * 2 ^ 42
+  excess_small = omega (arith, s_high, rest_small, square_small)
+
+  exact : root * root ≡ m * 2 ^ 52 + d
+  exact =
+      let parts : root + k ≡ s * 2 ^ 22 = omega (arith, s_low, k_small) in
       let whole : over / s * s + over % s ≡ over = div-add-mod' over s in
       let sq : (root + k) * (root + k) ≡ s * s * 2 ^ 44 = ap (λ (x : ℕ). x * x) parts ∙ mul-mul-mul_comm s (2 ^ 22) s (2 ^ 22) in
       let cross : (root + k) * k ≡ s * k * 2 ^ 22 = ap (λ (x : ℕ). x * k) parts ∙ mul_right_comm s (2 ^ 22) k in
-      record {
-        low = s_low;
-        high = s_high;
-        rest = mod-lt over s_pos;
-        small = k_small;
-        square = mul-le-mul k_small k_small;
-        exact = grind arith;
-      }
-
-  abbrev d : ℕ
-  d = over % s * 2 ^ 23 + k * k
+      let above = a.exact in
+      grind arith
 
   pub at_root : d < root → Digits m root
-  at_root h = nearest_is m root digits.0 digits.1 (omega (arith, last)) (omega (arith, last))
+  at_root h = nearest_is m root a.radicand.digits.0 a.radicand.digits.1 (omega (arith, exact)) (omega (arith, exact))
 
   pub before_root : root ≤ d → Digits m (root - 1)
-  before_root h = nearest_is m (root - 1) digits.0 digits.1 (omega (arith, last, pred_square root (omega (arith, last)))) (omega (arith, last, pred_square root (omega (arith, last))))
+  before_root h =
+      let e = pred_square root (omega (arith, s_low, k_small)) in
+      let small : d + 3 ≤ 3 * root = omega (arith, s_low, k_small, rest_small, square_small) in
+      nearest_is m (root - 1) a.radicand.digits.0 a.radicand.digits.1 (omega (arith, exact, e, s_low, k_small)) (omega (arith, exact, e, small))

@@ -104,6 +104,7 @@ sqrt_mono (fin false (suc m) e) y h k p l = go y k (above_of_le x y px l) l
 
 -- only what is not below zero has a root that is a number
 sqrt_number : (x : Float) → T (number (sqrt_of x)) → T (number x) × (lt x f0 ≡ false)
+unfolding of_bits
 sqrt_number x n = (is_number x n, go (lt x f0) refl)
   where
     is_number : (x : Float) → T (number (sqrt_of x)) → T (number x)

@@ -159,10 +159,6 @@ unfolding units is_nan
 units_number q k = grind arith
 
 -- ---- the other patterns
-pub nan_constant : of_bits binary64 0x7ff8_0000_0000_0000 ≡ nan
-unfolding of_bits
-nan_constant = refl
-
 pub not_above : (b : ℕ) → T (not (is_nan (of_bits binary64 b))) → b % 2 ^ 63 ≤ 2047 * 2 ^ 52
 not_above b h = nltb→le (2047 * 2 ^ 52) (b % 2 ^ 63) (subst (λ (t : Bool). T (not t)) (sym (nan_bits_is binary64 b) ∙ nan_bits_above binary64 b) h)
 

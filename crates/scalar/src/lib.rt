@@ -232,6 +232,7 @@ struct Above {
 
 impl Above {
     // The root of significand * 2^52, rounded to the nearest whole number. No tie can occur.
+    #[tactic(auto, using(crate::proofs::Division::square_small, crate::proofs::Division::excess_small, crate::proofs::Division::at_root, crate::proofs::Division::before_root))]
     fn digits(self) -> u64
         ensures { (2 ^ 52 ≤ result) × (result < 2 ^ 53) × ((k : ℕ) → rounded (self.radicand.significand * 2 ^ 52 * 2 ^ (2 * k)) ≡ units binary64 false result k) }
     {
@@ -245,7 +246,7 @@ impl Above {
 }
 
 // The root of any x but a positive finite one: a NaN below zero, and x itself at a zero, +infinity and a NaN.
-#[tactic(auto, using(crate::proofs::Cases::special_below, crate::proofs::Cases::special_itself, crate::proofs::Patterns::nan_constant))]
+#[tactic(auto, using(crate::proofs::Cases::special_below, crate::proofs::Cases::special_itself))]
 fn special(x: f64) -> f64
     requires { positive x ≡ false }
     ensures { result ≡ sqrt_of x }

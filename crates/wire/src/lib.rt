@@ -9,6 +9,7 @@ ghost use Rattle.wire.specs.Bytes.{u64_at, f64_at, f64_bytes, overwritten};
 
 // The number in the eight bytes from `at` on: 0 where they are not all there. The test is the one that the panel's loop
 // makes: with `b.get(at..)` in its place a reading took 1.9 to 5.3 ns there, and takes 0.4 to 1.3.
+#[tactic(auto, using(crate::proofs::Bytes::u64_there, crate::proofs::Bytes::u64_not_there, crate::proofs::Bytes::eight_read))]
 pub fn u64_at(b: &[u8], at: usize) -> u64
     ensures { result ≡ u64_at b.now at }
 {
@@ -28,6 +29,7 @@ pub fn f64_at(b: &[u8], at: usize) -> f64
 }
 
 // Writes the bytes of an f64 into the first eight places: nothing where there are fewer.
+#[tactic(auto, unfolding(crate::specs::Bytes::f64_bytes), using(crate::proofs::Bytes::overwritten_is, crate::proofs::Bytes::overwritten_not, crate::proofs::Bytes::eight_written))]
 pub fn put_f64(s: &mut [u8], x: f64)
     ensures { s.new ≡ overwritten (f64_bytes x) s.old }
 {
@@ -37,6 +39,7 @@ pub fn put_f64(s: &mut [u8], x: f64)
 }
 
 // The f64 of a bit pattern.
+#[tactic(auto, using(crate::proofs::Floats::nan_read, std::proofs::lemmas::Float::not_nan_f64_bits))]
 pub fn f64_from_bits(n: u64) -> f64
     ensures { result ≡ of_bits binary64 n }
 {
@@ -47,6 +50,7 @@ pub fn f64_from_bits(n: u64) -> f64
 }
 
 // The bit pattern of an f64.
+#[tactic(auto, using(crate::proofs::Floats::nan_written))]
 pub fn f64_to_bits(x: f64) -> u64
     ensures { result ≡ to_bits binary64 x }
 {
