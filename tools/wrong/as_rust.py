@@ -61,7 +61,8 @@ def without_contracts(text):
 def as_rust(text, crates, name):
     text = re.sub(r"\bcrate::", f"crate::{name}::", without_contracts(text))
     text = re.sub(r"(#\[derive\([^)]*), Drop\b", r"\1", text)
-    text = re.sub(r"<(\w+): Drop>", r"<\1>", text)
+    # a bound that each type of Rust meets
+    text = re.sub(r"(<\w+): Drop>", r"\1>", text)
     # a model has ghost lines alone
     text = re.sub(r"^use std::marker::Model;\n|^impl\b[^{]*\bModel for [^{]*\{\s*\}\n", "", text, flags=re.M)
     text = text.replace("std::num::nearest_u64_to_f64(", "(|n: u64| n as f64)(")

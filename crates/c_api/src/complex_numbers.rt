@@ -4,10 +4,10 @@
 ghost use Rattle.std.specs.Prelude.{◌≡◌};
 ghost use Rattle.scalar.specs.Scalar.{abs_of};
 ghost use Rattle.scalar.specs.Sqrt.{sqrt_of};
-ghost use Rattle.complex.specs.Complex.{product, sum, difference, magnitude_of, magnitude_sq, reciprocal_of, quotient, quotient_or_zero, values_of};
+ghost use Rattle.complex.specs.Complex.{product, sum, difference, magnitude_of, magnitude_sq, reciprocal_of, quotient, quotient_or_zero, complex_of, values_of};
 ghost use Rattle.laws.specs.Outcome.{Answers};
-ghost use Rattle.places.specs.Complex.{complex_of};
 
+use complex::Complex;
 use places::Answer;
 
 #[unsafe(no_mangle)]
@@ -28,57 +28,54 @@ pub extern "C" fn bazintroa_abs(x: f64) -> f64
 pub extern "C" fn bazintroa_complex_multiply(z: &[f64; 2], w: &[f64; 2], out: &mut [f64; 2])
     ensures { out.new ≡ values_of (product (complex_of z.now) (complex_of w.now)) }
 {
-    places::put_complex(places::complex_of(z).multiply(places::complex_of(w)), out);
+    *out = Complex::from(*z).multiply(Complex::from(*w)).into();
 }
 
 #[unsafe(no_mangle)]
 pub extern "C" fn bazintroa_complex_add(z: &[f64; 2], w: &[f64; 2], out: &mut [f64; 2])
     ensures { out.new ≡ values_of (sum (complex_of z.now) (complex_of w.now)) }
 {
-    places::put_complex(places::complex_of(z).add(places::complex_of(w)), out);
+    *out = Complex::from(*z).add(Complex::from(*w)).into();
 }
 
 #[unsafe(no_mangle)]
 pub extern "C" fn bazintroa_complex_sub(z: &[f64; 2], w: &[f64; 2], out: &mut [f64; 2])
     ensures { out.new ≡ values_of (difference (complex_of z.now) (complex_of w.now)) }
 {
-    places::put_complex(places::complex_of(z).sub(places::complex_of(w)), out);
+    *out = Complex::from(*z).sub(Complex::from(*w)).into();
 }
 
 #[unsafe(no_mangle)]
 pub extern "C" fn bazintroa_complex_magnitude(z: &[f64; 2]) -> f64
     ensures { result ≡ magnitude_of (complex_of z.now) }
 {
-    places::complex_of(z).magnitude()
+    Complex::from(*z).magnitude()
 }
 
 #[unsafe(no_mangle)]
 pub extern "C" fn bazintroa_complex_magnitude_sq(z: &[f64; 2]) -> f64
     ensures { result ≡ magnitude_sq (complex_of z.now) }
 {
-    places::complex_of(z).magnitude_sq()
+    Complex::from(*z).magnitude_sq()
 }
 
 #[unsafe(no_mangle)]
 pub extern "C" fn bazintroa_complex_reciprocal(z: &[f64; 2], out: &mut [f64; 2]) -> u32
     ensures { Answers (reciprocal_of (complex_of z.now)) result out.old out.new }
 {
-    places::complex_of(z).reciprocal().put(out)
+    Complex::from(*z).reciprocal().put(out)
 }
 
 #[unsafe(no_mangle)]
 pub extern "C" fn bazintroa_complex_divide(z: &[f64; 2], w: &[f64; 2], out: &mut [f64; 2]) -> u32
     ensures { Answers (quotient (complex_of z.now) (complex_of w.now)) result out.old out.new }
 {
-    places::complex_of(z).divide(places::complex_of(w)).put(out)
+    Complex::from(*z).divide(Complex::from(*w)).put(out)
 }
 
 #[unsafe(no_mangle)]
 pub extern "C" fn bazintroa_complex_divide_or_zero(z: &[f64; 2], w: &[f64; 2], out: &mut [f64; 2])
     ensures { out.new ≡ values_of (quotient_or_zero (complex_of z.now) (complex_of w.now)) }
 {
-    places::put_complex(
-        places::complex_of(z).divide_or_zero(places::complex_of(w)),
-        out,
-    );
+    *out = Complex::from(*z).divide_or_zero(Complex::from(*w)).into();
 }

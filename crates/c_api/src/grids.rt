@@ -1,33 +1,23 @@
 // The grids, written into lists that the host lends.
+#![tactic(auto, unfolding(sweep::specs::Answer::outcome_of_grid))]
+
 ghost use Rattle.std.specs.Prelude.{◌≡◌};
-ghost use Rattle.sweep.specs.Answer.{outcome_of_grid};
 ghost use Rattle.nyquist.specs.Frequency.{frequency_outcome, frequency_grid};
 ghost use Rattle.root_locus.specs.Gain.{gain_outcome, gain_grid};
 ghost use Rattle.c_api.specs.Places.{Filled};
 
-use sweep::FreqError;
-
-// (A number, for the C interface.)
-#[tactic(auto, unfolding(sweep::specs::Answer::outcome_of_grid))]
-fn grid_number(grid: Result<(), FreqError>) -> u32
-    ensures { result ≡ (outcome_of_grid grid).number }
-{
-    match grid {
-        Ok(()) => 0,
-        Err(e) => e.number(),
-    }
-}
+use places::Answer;
 
 #[unsafe(no_mangle)]
 pub extern "C" fn bazintroa_fill_gain_grid(k_max: f64, n: usize, list: &mut [f64]) -> u32
     ensures { Filled (gain_outcome k_max n list.old) (gain_grid k_max n list.old) result list.new }
 {
-    grid_number(root_locus::fill_gain_grid(k_max, n, list))
+    root_locus::fill_gain_grid(k_max, n, list).put(&mut ())
 }
 
 #[unsafe(no_mangle)]
 pub extern "C" fn bazintroa_fill_frequency_grid(omega_max: f64, n: usize, list: &mut [f64]) -> u32
     ensures { Filled (frequency_outcome omega_max n list.old) (frequency_grid omega_max n list.old) result list.new }
 {
-    grid_number(nyquist::fill_frequency_grid(omega_max, n, list))
+    nyquist::fill_frequency_grid(omega_max, n, list).put(&mut ())
 }

@@ -2,9 +2,8 @@
 ghost use Rattle.std.specs.Prelude.{◌≡◌};
 ghost use Rattle.scalar.specs.Scalar.{abs_of};
 ghost use Rattle.scalar.specs.Sqrt.{sqrt_of};
-ghost use Rattle.complex.specs.Complex.{product, sum, difference, magnitude_of, magnitude_sq, reciprocal_of, quotient, quotient_or_zero, values_of};
+ghost use Rattle.complex.specs.Complex.{product, sum, difference, magnitude_of, magnitude_sq, reciprocal_of, quotient, quotient_or_zero, complex_of, values_of};
 ghost use Rattle.laws.specs.Outcome.{Answers};
-ghost use Rattle.places.specs.Complex.{complex_of};
 
 #[unsafe(no_mangle)]
 pub extern "C" fn bazintroa_sqrt(x: f64) -> f64

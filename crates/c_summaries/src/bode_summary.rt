@@ -2,8 +2,7 @@
 #![tactic(auto, unfolding(sweep::specs::Answer::crossing_outcome))]
 
 ghost use Rattle.std.specs.Prelude.{◌≡◌, false, [], ◌∷◌};
-ghost use Rattle.sweep.specs.Refusal.{refusal_of, lists_refusal};
-ghost use Rattle.sweep.specs.Runs.{left_by};
+ghost use Rattle.sweep.specs.Refusal.{lists_refusal};
 ghost use Rattle.bode.specs.Bode.{readings};
 ghost use Rattle.bode.specs.Summary.{summary_of, fed_by, join_of, gain_answer, phase_answer};
 ghost use Rattle.bode.specs.Plain.{plain_of, from_plain};
@@ -12,10 +11,9 @@ ghost use Rattle.c_summaries.specs.Fed.{fed_bode};
 
 use bode::{BodePlain, BodeSummary};
 use places::Answer;
-use sweep::FreqError;
 
 // What a feed gives: 0 and the summary with the part behind it, or the refusal and the summary as it came. (There is one for
-// each kind, and a `put_fed` for it: a generic struct cannot cross to C.)
+// each kind: a generic struct cannot cross to C.)
 #[repr(C)]
 #[derive(Clone, Copy)]
 pub struct BodePlainFed {
@@ -31,25 +29,7 @@ pub extern "C" fn bazintroa_bode_empty() -> BodePlain
     BodePlain::from(BodeSummary::empty())
 }
 
-#[tactic(auto, unfolding(crate::specs::Fed::fed_bode, sweep::specs::Runs::left_after), using(sweep::proofs::Runs::left_refused))]
-fn put_fed(fed: Result<BodeSummary, FreqError>, s: BodePlain) -> BodePlainFed
-    ensures { result ≡ fed_bode (refusal_of fed) (left_by fed (from_plain s)) s }
-{
-    match fed {
-        Ok(t) => BodePlainFed {
-            number: 0,
-            reserved: 0,
-            summary: BodePlain::from(t),
-        },
-        Err(e) => BodePlainFed {
-            number: e.number(),
-            reserved: 0,
-            summary: s,
-        },
-    }
-}
-
-#[tactic(auto, unfolding(crate::specs::Fed::fed_bode), using(sweep::proofs::Runs::left_once))]
+#[tactic(auto, unfolding(crate::specs::Fed::fed_bode, sweep::specs::Runs::left_after))]
 #[unsafe(no_mangle)]
 pub extern "C" fn bazintroa_bode_feed(
     s: BodePlain,
@@ -59,7 +39,12 @@ pub extern "C" fn bazintroa_bode_feed(
 ) -> BodePlainFed
     ensures { result ≡ fed_bode (lists_refusal omega.now db.now phase.now) (fed_by (from_plain s) (readings omega.now db.now phase.now)) s }
 {
-    put_fed(BodeSummary::from(s).feed(omega, db, phase), s)
+    let (number, summary) = super::put_fed(BodeSummary::from(s).feed(omega, db, phase), s);
+    BodePlainFed {
+        number,
+        reserved: 0,
+        summary,
+    }
 }
 
 #[unsafe(no_mangle)]

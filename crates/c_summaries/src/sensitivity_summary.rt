@@ -2,8 +2,7 @@
 #![tactic(auto, unfolding(sweep::specs::Answer::crossing_outcome, sweep::specs::Answer::kept_outcome))]
 
 ghost use Rattle.std.specs.Prelude.{◌≡◌, false, [], ◌∷◌};
-ghost use Rattle.sweep.specs.Refusal.{refusal_of, lists_refusal};
-ghost use Rattle.sweep.specs.Runs.{left_by};
+ghost use Rattle.sweep.specs.Refusal.{lists_refusal};
 ghost use Rattle.sweep.specs.Scan.{zip3};
 ghost use Rattle.sensitivity.specs.Scans.{reading};
 ghost use Rattle.sensitivity.specs.Summary.{summary_of, fed_by, join_of, crossover_answer, bandwidth_answer};
@@ -13,10 +12,9 @@ ghost use Rattle.c_summaries.specs.Fed.{fed_sensitivity};
 
 use places::Answer;
 use sensitivity::{SensitivityPlain, SensitivitySummary};
-use sweep::FreqError;
 
 // What a feed gives: 0 and the summary with the part behind it, or the refusal and the summary as it came. (There is one for
-// each kind, and a `put_fed` for it: a generic struct cannot cross to C.)
+// each kind: a generic struct cannot cross to C.)
 #[repr(C)]
 #[derive(Clone, Copy)]
 pub struct SensitivityPlainFed {
@@ -32,25 +30,7 @@ pub extern "C" fn bazintroa_sensitivity_empty() -> SensitivityPlain
     SensitivityPlain::from(SensitivitySummary::empty())
 }
 
-#[tactic(auto, unfolding(crate::specs::Fed::fed_sensitivity, sweep::specs::Runs::left_after), using(sweep::proofs::Runs::left_refused))]
-fn put_fed(fed: Result<SensitivitySummary, FreqError>, s: SensitivityPlain) -> SensitivityPlainFed
-    ensures { result ≡ fed_sensitivity (refusal_of fed) (left_by fed (from_plain s)) s }
-{
-    match fed {
-        Ok(t) => SensitivityPlainFed {
-            number: 0,
-            reserved: 0,
-            summary: SensitivityPlain::from(t),
-        },
-        Err(e) => SensitivityPlainFed {
-            number: e.number(),
-            reserved: 0,
-            summary: s,
-        },
-    }
-}
-
-#[tactic(auto, unfolding(crate::specs::Fed::fed_sensitivity), using(sweep::proofs::Runs::left_once))]
+#[tactic(auto, unfolding(crate::specs::Fed::fed_sensitivity, sweep::specs::Runs::left_after))]
 #[unsafe(no_mangle)]
 pub extern "C" fn bazintroa_sensitivity_feed(
     s: SensitivityPlain,
@@ -60,7 +40,12 @@ pub extern "C" fn bazintroa_sensitivity_feed(
 ) -> SensitivityPlainFed
     ensures { result ≡ fed_sensitivity (lists_refusal omega.now s_db.now t_db.now) (fed_by (from_plain s) (zip3 reading omega.now s_db.now t_db.now)) s }
 {
-    put_fed(SensitivitySummary::from(s).feed(omega, s_db, t_db), s)
+    let (number, summary) = super::put_fed(SensitivitySummary::from(s).feed(omega, s_db, t_db), s);
+    SensitivityPlainFed {
+        number,
+        reserved: 0,
+        summary,
+    }
 }
 
 #[unsafe(no_mangle)]

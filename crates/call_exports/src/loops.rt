@@ -62,65 +62,99 @@ fn stability(rt: &impl Print) -> io::Result<()> {
     lines::verdict(rt, "stability_region", one & !two)
 }
 
+// The places of a point of the locus.
+#[derive(Drop)]
+struct Places {
+    gain: f64,
+    parts: [f64; 16],
+    count: usize,
+    ending: u32,
+    value: f64,
+}
+
+impl Places {
+    // A mark in each place.
+    fn new() -> Self {
+        Self {
+            gain: lines::MARK,
+            parts: [lines::MARK; 16],
+            count: 9,
+            ending: 9,
+            value: lines::MARK,
+        }
+    }
+
+    // Calls for point i of n up to gain k_max, with these places.
+    fn call(
+        &mut self,
+        b: &[f64; 8],
+        a: &[f64; 8],
+        order: usize,
+        k_max: f64,
+        n: usize,
+        i: usize,
+    ) -> u32 {
+        locus::bazintroa_locus_point(
+            b,
+            a,
+            order,
+            k_max,
+            n,
+            i,
+            &mut self.gain,
+            &mut self.parts,
+            &mut self.count,
+            &mut self.ending,
+            &mut self.value,
+        )
+    }
+}
+
 // Order 2, b (0, 1), a (-4, 5), point 4 of 9 up to gain 4: at gain 2 the polynomial 1, -2, 5 has the poles 1+2j, 1-2j.
 // A formula has them: settled, 0 rounds. Point 9 of 9: 17, and every place stays.
 fn point(rt: &impl Print) -> io::Result<()> {
     let b = two(0.0, 1.0);
     let a = two(-4.0, 5.0);
-    let mut gain = lines::MARK;
-    let mut parts = [lines::MARK; 16];
-    let mut count: usize = 9;
-    let mut ending: u32 = 9;
-    let mut rounds = lines::MARK;
-    let number = locus::bazintroa_locus_point(
-        &b,
-        &a,
-        2,
-        4.0,
-        9,
-        4,
-        &mut gain,
-        &mut parts,
-        &mut count,
-        &mut ending,
-        &mut rounds,
-    );
+    let mut places = Places::new();
+    let number = places.call(&b, &a, 2, 4.0, 9, 4);
     let mut expected = [0.0; 16];
     expected[0] = 1.0;
     expected[1] = 2.0;
     expected[2] = 1.0;
     expected[3] = -2.0;
-    lines::list(rt, "locus_point", number, 0, &parts, &expected)?;
-    lines::real(rt, "locus_point, its gain", 0, 0, gain, 2.0)?;
-    lines::verdict(rt, "locus_point, its count", count == 2)?;
-    lines::real(rt, "locus_point, its ending", ending, 0, rounds, 0.0)?;
-    ending = 9;
-    rounds = lines::MARK;
-    let number = locus::bazintroa_locus_point(
-        &b,
-        &a,
-        2,
-        4.0,
-        9,
-        9,
-        &mut gain,
-        &mut parts,
-        &mut count,
-        &mut ending,
-        &mut rounds,
-    );
-    lines::list(rt, "locus_point, refused", number, 17, &parts, &expected)?;
+    lines::list(rt, "locus_point", number, 0, &places.parts, &expected)?;
+    lines::real(rt, "locus_point, its gain", 0, 0, places.gain, 2.0)?;
+    lines::verdict(rt, "locus_point, its count", places.count == 2)?;
+    lines::real(
+        rt,
+        "locus_point, its ending",
+        places.ending,
+        0,
+        places.value,
+        0.0,
+    )?;
+    places.ending = 9;
+    places.value = lines::MARK;
+    let number = places.call(&b, &a, 2, 4.0, 9, 9);
+    lines::list(
+        rt,
+        "locus_point, refused",
+        number,
+        17,
+        &places.parts,
+        &expected,
+    )?;
     lines::verdict(
         rt,
         "locus_point, refused, its gain and count",
-        (gain == 2.0) & (count == 2),
+        (places.gain == 2.0) & (places.count == 2),
     )?;
     lines::real(
         rt,
         "locus_point, refused, its ending",
-        ending,
+        places.ending,
         9,
-        rounds,
+        places.value,
         lines::MARK,
     )
 }
@@ -134,29 +168,12 @@ fn ending(
     kind: u32,
     expected: f64,
 ) -> io::Result<()> {
-    let b = two(0.0, 0.0);
-    let mut gain = lines::MARK;
-    let mut parts = [lines::MARK; 16];
-    let mut count: usize = 9;
-    let mut ending: u32 = 9;
-    let mut value = lines::MARK;
-    let number = locus::bazintroa_locus_point(
-        &b,
-        &a,
-        order,
-        1.0,
-        2,
-        0,
-        &mut gain,
-        &mut parts,
-        &mut count,
-        &mut ending,
-        &mut value,
-    );
+    let mut places = Places::new();
+    let number = places.call(&two(0.0, 0.0), &a, order, 1.0, 2, 0);
     lines::verdict(
         rt,
         name,
-        (number == 0) & (ending == kind) & (value == expected),
+        (number == 0) & (places.ending == kind) & (places.value == expected),
     )
 }
 

@@ -1,6 +1,6 @@
 -- Complex arithmetic on binary64, each operation rounded, in the Rust's order. Definitions only.
-use Rattle.std.specs.Prelude.{Bool, cond, List, [], ◌∷◌, Option, Float}
-use Rattle.std.specs.Float.{binary64}
+use Rattle.std.specs.Prelude.{Bool, cond, List, [], ◌∷◌, Option, get_or, Float}
+use Rattle.std.specs.Float.{binary64, nan}
 use Rattle.std.specs.Float.Ieee.{add, sub, mul, div, neg, lt}
 use Rattle.laws.specs.Outcome.{Outcome, found, none, option_outcome}
 use Rattle.scalar.specs.Scalar.{f0, eps}
@@ -49,6 +49,10 @@ ratio x y =
       re = div binary64 (add binary64 (mul binary64 x.re y.re) (mul binary64 x.im y.im)) (magnitude_sq y);
       im = div binary64 (sub binary64 (mul binary64 x.im y.re) (mul binary64 x.re y.im)) (magnitude_sq y);
     }
+
+-- the complex number of a real and an imaginary part
+abbrev pub complex_of : List Float → Complex
+complex_of l = new_of (get_or l 0 nan) (get_or l 1 nan)
 
 -- ---- answers in the numbers of document 01
 

@@ -2,7 +2,7 @@
 #![tactic(auto)]
 
 ghost use Rattle.std.specs.Prelude.{◌≡◌};
-ghost use Rattle.complex.specs.Complex.{new_of, from_real, product, sum, difference, magnitude_sq, magnitude_of, outcome_of, reciprocal_of, quotient, quotient_or_zero};
+ghost use Rattle.complex.specs.Complex.{new_of, from_real, product, sum, difference, magnitude_sq, magnitude_of, outcome_of, reciprocal_of, quotient, quotient_or_zero, complex_of, values_of};
 
 #[derive(Clone, Copy)]
 pub struct Complex {
@@ -96,5 +96,22 @@ impl Complex {
         ensures { result ≡ quotient_or_zero self other }
     {
         self.divide(other).unwrap_or(Complex::from_real(0.0))
+    }
+}
+
+// A complex number crosses to a host as its real and its imaginary part.
+impl From<[f64; 2]> for Complex {
+    ghost from_gives = { λ parts z. z ≡ complex_of parts };
+
+    fn from(parts: [f64; 2]) -> Complex {
+        Complex::new(parts[0], parts[1])
+    }
+}
+
+impl From<Complex> for [f64; 2] {
+    ghost from_gives = { λ z parts. parts ≡ values_of z };
+
+    fn from(z: Complex) -> [f64; 2] {
+        [z.re, z.im]
     }
 }

@@ -4,14 +4,10 @@ use mathlib.Core.Bool.{true, false}
 use mathlib.Core.List.{List, [], ◌∷◌, flat_map}
 use lib.Ieee.{binary64, round, of_bits, add, sub, mul, div, lt}
 use Rattle.complex.specs.declared.Complex.{Complex}
-use Rattle.complex.specs.Complex.{new_of, values_of, magnitude_sq, small, ratio, quotient_or_zero}
+use Rattle.complex.specs.Complex.{values_of, magnitude_sq, small, ratio, quotient_or_zero}
 use Rattle.transfer_fn.specs.Evaluation.{sum_up, term_of, pair_sum, numerator, denominator, value_at}
-use Rattle.places.specs.Complex.{complex_of, poles_of, parts_of}
+use Rattle.places.specs.Complex.{poles_of, parts_of}
 use Rattle.places.specs.Coefficients.{transfer_fn}
-
-pub complex_back : (z : Complex) → complex_of (values_of z) ≡ z
-unfolding new_of
-complex_back z = refl
 
 module _ (z₀ z₁ z₂ z₃ z₄ z₅ z₆ z₇ : Complex) where
   abbrev eight : List Complex

@@ -2,13 +2,8 @@
 use Rattle.std.specs.Prelude.{ℕ, ◌+◌, ◌*◌, List, [], ◌∷◌, get_or, Float}
 use Rattle.std.specs.Float.{nan}
 use Rattle.complex.specs.declared.Complex.{Complex}
-use Rattle.complex.specs.Complex.{new_of}
 
--- the complex number of a real and an imaginary part
-abbrev pub complex_of : List Float → Complex
-complex_of l = new_of (get_or l 0 nan) (get_or l 1 nan)
-
--- ---- eight poles are sixteen parts: pole i has its real part in place 2i and its imaginary part in the next
+-- Eight poles are sixteen parts: pole i has its real part in place 2i and its imaginary part in the next
 
 abbrev pub pole_at : List Float → ℕ → Complex
 pole_at parts i = record { re = get_or parts (2 * i) nan; im = get_or parts (2 * i + 1) nan }

@@ -1,79 +1,38 @@
-// Complex numbers and transfer functions from places that a host lends, and answers to them: the number is returned, and
-// the values are written only on 0.
+// Poles and transfer functions from places that a host lends, and answers to them: the number is returned, and the values
+// are written only on 0.
 #![tactic(auto)]
 
-ghost use Rattle.std.specs.Prelude.{◌≡◌, ℕ, List, [], ◌∷◌, Float};
+ghost use Rattle.std.specs.Prelude.{◌≡◌, ◌<◌, ℕ, List, [], ◌∷◌, Float};
 ghost use Rattle.complex.specs.Complex.{values_of};
 ghost use Rattle.sweep.specs.Refusal.{number_of};
 ghost use Rattle.laws.specs.Outcome.{Outcome, found, option_outcome, result_outcome, Answers};
-ghost use Rattle.places.specs.Complex.{complex_of, poles_of, parts_of};
+ghost use Rattle.places.specs.Complex.{pole_at, poles_of, parts_of};
 ghost use Rattle.places.specs.Coefficients.{transfer_fn};
 
 use complex::Complex;
+use std::array;
 use sweep::{FreqError, NotKept};
 use transfer_fn::TransferFn;
 
-pub fn complex_of(z: &[f64; 2]) -> Complex
-    ensures { result ≡ complex_of z.now }
-{
-    Complex::new(z[0], z[1])
-}
-
-pub fn put_complex(z: Complex, out: &mut [f64; 2])
-    ensures { out.new ≡ values_of z }
-{
-    *out = [z.re, z.im];
-}
-
-// Eight poles in an array of sixteen: real and imaginary part of the first, then of the second, and on.
+// Eight poles in an array of sixteen: real and imaginary part of the first, then of the second, and on. (No `From`: neither
+// array is of this crate.)
 pub fn poles_of(parts: &[f64; 16]) -> [Complex; 8]
     ensures { result ≡ poles_of parts.now }
 {
-    [
-        Complex {
-            re: parts[0],
-            im: parts[1],
-        },
-        Complex {
-            re: parts[2],
-            im: parts[3],
-        },
-        Complex {
-            re: parts[4],
-            im: parts[5],
-        },
-        Complex {
-            re: parts[6],
-            im: parts[7],
-        },
-        Complex {
-            re: parts[8],
-            im: parts[9],
-        },
-        Complex {
-            re: parts[10],
-            im: parts[11],
-        },
-        Complex {
-            re: parts[12],
-            im: parts[13],
-        },
-        Complex {
-            re: parts[14],
-            im: parts[15],
-        },
-    ]
+    array::from_fn(
+        |i|
+            requires { i < 8 }
+        { Complex::new(parts[2 * i], parts[2 * i + 1]) },
+    )
 }
 
 pub fn put_poles(z: [Complex; 8], parts: &mut [f64; 16])
     ensures { parts.new ≡ parts_of z }
 {
-    *parts = [
-        z[0].re, z[0].im, z[1].re, z[1].im, z[2].re, z[2].im, z[3].re, z[3].im, z[4].re, z[4].im,
-        z[5].re, z[5].im, z[6].re, z[6].im, z[7].re, z[7].im,
-    ];
+    parts.copy_from_slice(z.map(<[f64; 2]>::from).as_flattened());
 }
 
+// (No `From`: it would be from a tuple, whose three parts have no names.)
 pub fn transfer_fn(b: &[f64; 8], a: &[f64; 8], order: usize) -> TransferFn
     ensures { result ≡ transfer_fn b.now a.now order }
 {
@@ -97,6 +56,19 @@ pub trait Answer {
         ensures { Answers (outcome self) result (values out.old) (values out.new) };
 }
 
+// No value.
+impl Answer for () {
+    type Place = ();
+
+    ghost outcome = { λ x. found [] };
+
+    ghost values = { λ x. [] };
+
+    fn put(self, _: &mut ()) -> u32 {
+        0
+    }
+}
+
 impl Answer for f64 {
     type Place = f64;
 
@@ -118,7 +90,7 @@ impl Answer for Complex {
     ghost values = { λ l. l };
 
     fn put(self, out: &mut [f64; 2]) -> u32 {
-        put_complex(self, out);
+        *out = self.into();
         0
     }
 }

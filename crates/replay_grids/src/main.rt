@@ -3,8 +3,8 @@
 // seen to.
 #![tactic(auto)]
 
+use places::Answer;
 use std::io;
-use sweep::FreqError;
 use vectors::{Input, Replay};
 use wire::f64_to_bits;
 
@@ -16,19 +16,13 @@ const QUESTIONS: [(u64, &str); 3] = [
     (0, "no question"),
 ];
 
-// The number that the oracle writes for an outcome.
-fn expected(grid: Result<(), FreqError>) -> u64 {
-    match grid {
-        Ok(()) => 0,
-        Err(e) => e.number() as u64,
-    }
-}
-
+// The number that the oracle writes for the outcome.
 fn fill(question: u64, top: f64, n: usize, list: &mut [f64]) -> u64 {
-    expected(match question {
+    let grid = match question {
         1 => root_locus::fill_gain_grid(top, n, list),
         _ => nyquist::fill_frequency_grid(top, n, list),
-    })
+    };
+    grid.put(&mut ()) as u64
 }
 
 // Whether the list holds the values that are read next, as many as are given, and behind them marks.
