@@ -6,6 +6,7 @@
 #![tactic(auto)]
 
 ghost use Rattle.std.specs.Prelude.{◌≡◌, ◌<◌, Bool, false, IsErr, IsSome, IsTrue, MatchOption};
+ghost use Rattle.vectors.specs.Ended.{Ended};
 ghost use Rattle.vectors.specs.Made.{Made};
 ghost use Rattle.vectors.specs.Tally.{unmarked_of, known_of, one_more, none_asked, begun_with, counted_in};
 
@@ -70,14 +71,14 @@ impl Input {
 
     // The f64 whose bits are the next word.
     pub fn float(&mut self) -> f64
-        ensures { IsSome self.old.failed → self.new ≡ self.old }
+        ensures { Ended self.old self.new }
     {
         wire::f64_from_bits(self.number())
     }
 
     // The next N floats.
     pub fn array<const N: usize>(&mut self) -> [f64; N]
-        ensures { IsSome self.old.failed → self.new ≡ self.old }
+        ensures { Ended self.old self.new }
     {
         let mut floats = [0.0; N];
         for place in floats.iter_mut() {
@@ -113,7 +114,7 @@ impl Input {
 
     // Passes over so many words.
     pub fn skip(&mut self, words: usize)
-        ensures { IsSome self.old.failed → self.new ≡ self.old }
+        ensures { Ended self.old self.new }
     {
         for _ in 0..words {
             self.number();
@@ -122,7 +123,7 @@ impl Input {
 
     // Whether the next words are these. As many are read.
     pub fn next_are(&mut self, words: &[u64]) -> bool
-        ensures { IsSome self.old.failed → self.new ≡ self.old }
+        ensures { Ended self.old self.new }
     {
         let mut same = true;
         for word in words {
@@ -264,9 +265,10 @@ impl Replay {
 
     // Reads the first word of each case. `answer` is passed it without its mark, reads the rest of the case and counts
     // its answers. A proved loop ends, and nothing says that the input does: at most a million cases are read, more than
-    // any file has.
+    // any file has. After a read that failed nothing is read, and nothing is counted.
     pub fn run<F: FnMut(&mut Replay, u64)>(&mut self, mut answer: F)
         requires { F.IsAlwaysCallable answer }
+        ensures { IsSome self.old.input.failed → self.new ≡ self.old }
     {
         for _ in 0..1000000 {
             let Some(head) = self.input.next() else {
@@ -279,7 +281,7 @@ impl Replay {
 
     // Counts an answer, given as the words that the oracle writes for it: it is right where they are the next.
     pub fn compare(&mut self, question: u64, words: &[u64])
-        ensures ended { IsSome self.old.input.failed → self.new.input ≡ self.old.input }
+        ensures ended { Ended self.old.input self.new.input }
         ensures counted { (right : Bool) × (self.new.tally ≡ counted_in self.old.tally question right) }
     {
         let right = self.input.next_are(words);
@@ -288,7 +290,7 @@ impl Replay {
 
     // Counts an answer with one value: the oracle writes its number, and the bits of its value, or of 0.0 where it has none.
     pub fn compare_value<A: Answer<Place = f64>>(&mut self, question: u64, answer: A)
-        ensures ended { IsSome self.old.input.failed → self.new.input ≡ self.old.input }
+        ensures ended { Ended self.old.input self.new.input }
         ensures counted { (right : Bool) × (self.new.tally ≡ counted_in self.old.tally question right) }
     {
         let mut value = 0.0;
@@ -299,7 +301,7 @@ impl Replay {
     // Counts an answer with two values, as one with one. (Each is three lines, of which two name the place: one function of both
     // would need a trait of places, and be no shorter.)
     pub fn compare_pair<A: Answer<Place = [f64; 2]>>(&mut self, question: u64, answer: A)
-        ensures ended { IsSome self.old.input.failed → self.new.input ≡ self.old.input }
+        ensures ended { Ended self.old.input self.new.input }
         ensures counted { (right : Bool) × (self.new.tally ≡ counted_in self.old.tally question right) }
     {
         let mut pair = [0.0, 0.0];
