@@ -1,8 +1,8 @@
 // Support for the replay programs: the oracle's vectors are read from standard input, a word of eight bytes at a
 // time, and answers are counted. No contract can speak of what is read or printed: a function that reads promises what
 // it does after a read that failed, and one that reads a list its length, and that the places behind it stay.
-// Questions and kinds stay the oracle's numbers: an enum of each program would be made from them by one more match, and
-// be turned back into the place of its counts.
+// Questions, kinds and calls stay the oracle's numbers: an enum would be made from them by one more match, and that of
+// questions be turned back into the place of its counts.
 #![tactic(auto)]
 
 ghost use Rattle.std.specs.Prelude.{◌≡◌, ◌<◌, Bool, false, IsErr, IsSome, IsTrue, MatchOption};
@@ -15,7 +15,8 @@ use std::io::{ErrorKind, Print, Read, Stdin};
 use std::{fmt, io};
 use wire::f64_to_bits;
 
-// Standard input. It ends where a read fails; that error is kept for the end of the program.
+// Standard input. It ends where a read fails; that error is kept for the end of the program, and what was counted is
+// printed first.
 #[derive(Drop)]
 pub struct Input {
     stdin: Stdin,
@@ -56,10 +57,7 @@ impl Input {
         ensures { IsSome self.old.failed → (result ≡ None) × (self.new ≡ self.old) }
     {
         let mut bytes = [0; 8];
-        if !self.fill(&mut bytes) {
-            return None;
-        }
-        Some(u64::from_le_bytes(bytes))
+        self.fill(&mut bytes).then(|| u64::from_le_bytes(bytes))
     }
 
     // The next word, and 0 past the end.
@@ -76,7 +74,7 @@ impl Input {
         wire::f64_from_bits(self.number())
     }
 
-    // The next N floats.
+    // The next N floats. (Not by `array::from_fn`: its contract does not say what the closure's last call leaves of `self`.)
     pub fn array<const N: usize>(&mut self) -> [f64; N]
         ensures { Ended self.old self.new }
     {
@@ -92,7 +90,8 @@ impl Input {
     // clause could not speak of the places behind it then.
     #[tactic(auto, unfolding(crate::specs::Made::made_length))]
     pub fn padded(&mut self, list: &mut [f64], pad: u64, count: u64) -> usize
-        ensures { Made pad count list.old list.new result }
+        ensures ended { Ended self.old self.new }
+        ensures made { Made pad count list.old list.new result }
     {
         if count == 0 {
             return 0;
@@ -107,7 +106,8 @@ impl Input {
 
     // Fills the first `count` places of a list.
     pub fn floats(&mut self, list: &mut [f64], count: u64) -> usize
-        ensures { Made 0 count list.old list.new result }
+        ensures ended { Ended self.old self.new }
+        ensures made { Made 0 count list.old list.new result }
     {
         self.padded(list, 0, count)
     }
@@ -121,7 +121,7 @@ impl Input {
         }
     }
 
-    // Whether the next words are these. As many are read.
+    // Whether the next words are these. As many are read. (`all` would stop at the first that differs.)
     pub fn next_are(&mut self, words: &[u64]) -> bool
         ensures { Ended self.old self.new }
     {
@@ -277,6 +277,29 @@ impl Replay {
             self.tally.begin(head);
             answer(self, unmarked(head));
         }
+    }
+
+    // Reads three lists as `padded` does, each cut off at 5000 floats, and passes them on. Their lengths come first, that
+    // of the third only where it has one, and the number of copies before them.
+    pub fn lists<F: FnOnce(&mut Replay, &[f64], &[f64], &[f64])>(
+        &mut self,
+        has_third: bool,
+        answer: F,
+    )
+        requires { F.IsAlwaysCallable answer }
+    {
+        let input = &mut self.input;
+        let na = input.number();
+        let nb = input.number();
+        let nc = if has_third { input.number() } else { 0 };
+        let pad = input.number();
+        let mut a = [0.0; 5000];
+        let mut b = [0.0; 5000];
+        let mut c = [0.0; 5000];
+        let i = input.padded(&mut a, pad, na);
+        let j = input.padded(&mut b, pad, nb);
+        let k = input.padded(&mut c, pad, nc);
+        answer(self, &a[..i], &b[..j], &c[..k]);
     }
 
     // Counts an answer, given as the words that the oracle writes for it: it is right where they are the next.
