@@ -280,13 +280,14 @@ impl Replay {
     }
 
     // Reads three lists as `padded` does, each cut off at 5000 floats, and passes them on. Their lengths come first, that
-    // of the third only where it has one, and the number of copies before them.
+    // of the third only where it has one, and the number of copies before them. Nothing is counted but by the call.
     pub fn lists<F: FnOnce(&mut Replay, &[f64], &[f64], &[f64])>(
         &mut self,
         has_third: bool,
         answer: F,
     )
         requires { F.IsAlwaysCallable answer }
+        ensures { (x : _) × (a : _) × (b : _) × (c : _) × (y : _) × (x.now.tally ≡ self.old.tally) × F.post answer x a b c tt y × (y.now ≡ self.new) }
     {
         let input = &mut self.input;
         let na = input.number();
