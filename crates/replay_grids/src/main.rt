@@ -5,6 +5,7 @@
 
 use places::Answer;
 use std::io;
+use sweep::FreqError;
 use vectors::{Input, Replay};
 use wire::f64_to_bits;
 
@@ -15,15 +16,6 @@ const QUESTIONS: [(u64, &str); 3] = [
     (2, "fill_frequency_grid"),
     (0, "no question"),
 ];
-
-// The number that the oracle writes for the outcome.
-fn fill(question: u64, top: f64, n: usize, list: &mut [f64]) -> u64 {
-    let grid = match question {
-        1 => root_locus::fill_gain_grid(top, n, list),
-        _ => nyquist::fill_frequency_grid(top, n, list),
-    };
-    grid.put(&mut ()) as u64
-}
 
 // Whether the list holds the values that are read next, as many as are given, and behind them marks.
 fn holds(input: &mut Input, list: &[f64], given: u64) -> bool {
@@ -39,23 +31,44 @@ fn holds(input: &mut Input, list: &[f64], given: u64) -> bool {
     right
 }
 
-fn is_right(input: &mut Input, question: u64, top: f64, n: usize, list: &mut [f64]) -> bool {
-    let number = fill(question, top, n, list);
+// Reads the rest of a case, fills the first `room` places of a list, and says whether that is right.
+fn is_right<F: Fn(f64, usize, &mut [f64]) -> Result<(), FreqError>>(
+    input: &mut Input,
+    fill: F,
+) -> bool
+    requires { F.IsAlwaysCallable fill }
+{
+    let top = input.float();
+    let n = input.number() as usize;
+    let room = input.number() as usize;
+    let mut list = [MARK; 4200];
+    let Some(places) = list.get_mut(..room) else {
+        return false;
+    };
+    let number = fill(top, n, places).put(&mut ()) as u64;
     let given = input.number();
-    input.next_are(&[number]) & holds(input, list, given)
+    input.next_are(&[number]) & holds(input, places, given)
 }
 
-// Reads and answers the rest of a case, with the first `room` places of a list.
+// The same of a frequency grid. (In a closure: a function of another crate's private module cannot be passed by name.)
+fn frequencies_are_right(input: &mut Input) -> bool {
+    is_right(input, |top, n, list| {
+        nyquist::fill_frequency_grid(top, n, list)
+    })
+}
+
+// Answers a case. One that asks nothing is read as a frequency grid's.
 fn answer(replay: &mut Replay, question: u64) {
-    let top = replay.input.float();
-    let n = replay.input.number() as usize;
-    let room = replay.input.number() as usize;
-    let mut list = [MARK; 4200];
-    let right = room <= 4200 && is_right(&mut replay.input, question, top, n, &mut list[..room]);
-    match question {
-        1 | 2 => replay.tally.count(question, right),
-        _ => replay.no_question(),
-    }
+    let input = &mut replay.input;
+    let right = match question {
+        1 => is_right(input, root_locus::fill_gain_grid),
+        2 => frequencies_are_right(input),
+        _ => {
+            frequencies_are_right(input);
+            return replay.no_question();
+        }
+    };
+    replay.tally.count(question, right);
 }
 
 fn main(rt: HostRuntime) -> io::Result<()> {

@@ -35,7 +35,8 @@ fn padded(input: &mut Input, bytes: &mut [u8], pad: u64, words: u64) {
     }
 }
 
-// Asks an entry, with the first `room` of 32 bytes for its answer.
+// Asks an entry, with the first `room` of 32 bytes for its answer. (Each is passed in a closure: an exported function is
+// itself no `Fn`.)
 fn ask<F: Fn(&[u8], &mut [u8]) -> u32>(
     replay: &mut Replay,
     question: u64,

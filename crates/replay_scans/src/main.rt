@@ -66,29 +66,14 @@ fn ask_curve(replay: &mut Replay, re: &[f64], im: &[f64]) {
     replay.input.skip(4 * ANSWER);
 }
 
-fn ask(replay: &mut Replay, kind: u64, a: &[f64], b: &[f64], c: &[f64]) {
-    match kind {
+// Reads and answers the rest of a case.
+fn answer(replay: &mut Replay, kind: u64) {
+    replay.lists(true, |replay, a, b, c| match kind {
         1 => ask_bode(replay, a, b, c),
         2 => ask_sensitivity(replay, a, b, c),
         3 => ask_curve(replay, a, b),
         _ => replay.no_question(),
-    }
-}
-
-// Reads and answers the rest of a case.
-fn answer(replay: &mut Replay, kind: u64) {
-    let input = &mut replay.input;
-    let na = input.number();
-    let nb = input.number();
-    let nc = input.number();
-    let pad = input.number();
-    let mut a = [0.0; 5000];
-    let mut b = [0.0; 5000];
-    let mut c = [0.0; 5000];
-    let i = input.padded(&mut a, pad, na);
-    let j = input.padded(&mut b, pad, nb);
-    let k = input.padded(&mut c, pad, nc);
-    ask(replay, kind, &a[..i], &b[..j], &c[..k]);
+    });
 }
 
 fn main(rt: HostRuntime) -> io::Result<()> {

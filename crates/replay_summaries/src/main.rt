@@ -141,22 +141,6 @@ impl Summary for NoSummary {
     }
 }
 
-// Reads a part and feeds it.
-fn feed<S: Summary>(replay: &mut Replay, summary: &mut S) {
-    let input = &mut replay.input;
-    let na = input.number();
-    let nb = input.number();
-    let nc = if S::HAS_THIRD { input.number() } else { 0 };
-    let pad = input.number();
-    let mut a = [0.0; 5000];
-    let mut b = [0.0; 5000];
-    let mut c = [0.0; 5000];
-    let i = input.padded(&mut a, pad, na);
-    let j = input.padded(&mut b, pad, nb);
-    let k = input.padded(&mut c, pad, nc);
-    summary.take(replay, &a[..i], &b[..j], &c[..k]);
-}
-
 // Reads the number of a register: from 3 on it is the last.
 fn register(input: &mut Input) -> usize
     ensures { result < 4 }
@@ -164,13 +148,18 @@ fn register(input: &mut Input) -> usize
     input.number().min(3) as usize
 }
 
-// Reads a call and makes it.
+// Reads a call and makes it. (Calls have the numbers that the oracle writes, as questions have: `vectors` says why.)
 fn call<S: Summary>(replay: &mut Replay, registers: &mut [S; 4]) {
     let call = replay.input.number();
     let at = register(&mut replay.input);
     match call {
         1 => registers[at] = S::none(),
-        2 => feed(replay, &mut registers[at]),
+        2 => {
+            let summary = &mut registers[at];
+            replay.lists(S::HAS_THIRD, |replay, a, b, c| {
+                summary.take(replay, a, b, c)
+            });
+        }
         3 => {
             let other = register(&mut replay.input);
             registers[at] = registers[at].with(registers[other]);

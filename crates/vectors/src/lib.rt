@@ -1,11 +1,12 @@
 // Support for the replay programs: the oracle's vectors are read from standard input, a word of eight bytes at a
 // time, and answers are counted. No contract can speak of what is read or printed: a function that reads promises what
 // it does after a read that failed, and one that reads a list its length, and that the places behind it stay.
-// Questions and kinds stay the oracle's numbers: an enum of each program would be made from them by one more match, and
-// be turned back into the place of its counts.
+// Questions, kinds and calls stay the oracle's numbers: an enum would be made from them by one more match, and that of
+// questions be turned back into the place of its counts.
 #![tactic(auto)]
 
 ghost use Rattle.std.specs.Prelude.{◌≡◌, ◌<◌, Bool, false, IsErr, IsSome, IsTrue, MatchOption};
+ghost use Rattle.vectors.specs.Ended.{Ended};
 ghost use Rattle.vectors.specs.Made.{Made};
 ghost use Rattle.vectors.specs.Tally.{unmarked_of, known_of, one_more, none_asked, begun_with, counted_in};
 
@@ -14,7 +15,8 @@ use std::io::{ErrorKind, Print, Read, Stdin};
 use std::{fmt, io};
 use wire::f64_to_bits;
 
-// Standard input. It ends where a read fails; that error is kept for the end of the program.
+// Standard input. It ends where a read fails; that error is kept for the end of the program, and what was counted is
+// printed first.
 #[derive(Drop)]
 pub struct Input {
     stdin: Stdin,
@@ -55,10 +57,7 @@ impl Input {
         ensures { IsSome self.old.failed → (result ≡ None) × (self.new ≡ self.old) }
     {
         let mut bytes = [0; 8];
-        if !self.fill(&mut bytes) {
-            return None;
-        }
-        Some(u64::from_le_bytes(bytes))
+        self.fill(&mut bytes).then(|| u64::from_le_bytes(bytes))
     }
 
     // The next word, and 0 past the end.
@@ -70,14 +69,14 @@ impl Input {
 
     // The f64 whose bits are the next word.
     pub fn float(&mut self) -> f64
-        ensures { IsSome self.old.failed → self.new ≡ self.old }
+        ensures { Ended self.old self.new }
     {
         wire::f64_from_bits(self.number())
     }
 
-    // The next N floats.
+    // The next N floats. (Not by `array::from_fn`: its contract does not say what the closure's last call leaves of `self`.)
     pub fn array<const N: usize>(&mut self) -> [f64; N]
-        ensures { IsSome self.old.failed → self.new ≡ self.old }
+        ensures { Ended self.old self.new }
     {
         let mut floats = [0.0; N];
         for place in floats.iter_mut() {
@@ -91,7 +90,8 @@ impl Input {
     // clause could not speak of the places behind it then.
     #[tactic(auto, unfolding(crate::specs::Made::made_length))]
     pub fn padded(&mut self, list: &mut [f64], pad: u64, count: u64) -> usize
-        ensures { Made pad count list.old list.new result }
+        ensures ended { Ended self.old self.new }
+        ensures made { Made pad count list.old list.new result }
     {
         if count == 0 {
             return 0;
@@ -106,23 +106,24 @@ impl Input {
 
     // Fills the first `count` places of a list.
     pub fn floats(&mut self, list: &mut [f64], count: u64) -> usize
-        ensures { Made 0 count list.old list.new result }
+        ensures ended { Ended self.old self.new }
+        ensures made { Made 0 count list.old list.new result }
     {
         self.padded(list, 0, count)
     }
 
     // Passes over so many words.
     pub fn skip(&mut self, words: usize)
-        ensures { IsSome self.old.failed → self.new ≡ self.old }
+        ensures { Ended self.old self.new }
     {
         for _ in 0..words {
             self.number();
         }
     }
 
-    // Whether the next words are these. As many are read.
+    // Whether the next words are these. As many are read. (`all` would stop at the first that differs.)
     pub fn next_are(&mut self, words: &[u64]) -> bool
-        ensures { IsSome self.old.failed → self.new ≡ self.old }
+        ensures { Ended self.old self.new }
     {
         let mut same = true;
         for word in words {
@@ -264,9 +265,10 @@ impl Replay {
 
     // Reads the first word of each case. `answer` is passed it without its mark, reads the rest of the case and counts
     // its answers. A proved loop ends, and nothing says that the input does: at most a million cases are read, more than
-    // any file has.
+    // any file has. After a read that failed nothing is read, and nothing is counted.
     pub fn run<F: FnMut(&mut Replay, u64)>(&mut self, mut answer: F)
         requires { F.IsAlwaysCallable answer }
+        ensures { IsSome self.old.input.failed → self.new ≡ self.old }
     {
         for _ in 0..1000000 {
             let Some(head) = self.input.next() else {
@@ -277,9 +279,33 @@ impl Replay {
         }
     }
 
+    // Reads three lists as `padded` does, each cut off at 5000 floats, and passes them on. Their lengths come first, that
+    // of the third only where it has one, and the number of copies before them. Nothing is counted but by the call.
+    pub fn lists<F: FnOnce(&mut Replay, &[f64], &[f64], &[f64])>(
+        &mut self,
+        has_third: bool,
+        answer: F,
+    )
+        requires { F.IsAlwaysCallable answer }
+        ensures { (x : _) × (a : _) × (b : _) × (c : _) × (y : _) × (x.now.tally ≡ self.old.tally) × F.post answer x a b c tt y × (y.now ≡ self.new) }
+    {
+        let input = &mut self.input;
+        let na = input.number();
+        let nb = input.number();
+        let nc = if has_third { input.number() } else { 0 };
+        let pad = input.number();
+        let mut a = [0.0; 5000];
+        let mut b = [0.0; 5000];
+        let mut c = [0.0; 5000];
+        let i = input.padded(&mut a, pad, na);
+        let j = input.padded(&mut b, pad, nb);
+        let k = input.padded(&mut c, pad, nc);
+        answer(self, &a[..i], &b[..j], &c[..k]);
+    }
+
     // Counts an answer, given as the words that the oracle writes for it: it is right where they are the next.
     pub fn compare(&mut self, question: u64, words: &[u64])
-        ensures ended { IsSome self.old.input.failed → self.new.input ≡ self.old.input }
+        ensures ended { Ended self.old.input self.new.input }
         ensures counted { (right : Bool) × (self.new.tally ≡ counted_in self.old.tally question right) }
     {
         let right = self.input.next_are(words);
@@ -288,7 +314,7 @@ impl Replay {
 
     // Counts an answer with one value: the oracle writes its number, and the bits of its value, or of 0.0 where it has none.
     pub fn compare_value<A: Answer<Place = f64>>(&mut self, question: u64, answer: A)
-        ensures ended { IsSome self.old.input.failed → self.new.input ≡ self.old.input }
+        ensures ended { Ended self.old.input self.new.input }
         ensures counted { (right : Bool) × (self.new.tally ≡ counted_in self.old.tally question right) }
     {
         let mut value = 0.0;
@@ -299,7 +325,7 @@ impl Replay {
     // Counts an answer with two values, as one with one. (Each is three lines, of which two name the place: one function of both
     // would need a trait of places, and be no shorter.)
     pub fn compare_pair<A: Answer<Place = [f64; 2]>>(&mut self, question: u64, answer: A)
-        ensures ended { IsSome self.old.input.failed → self.new.input ≡ self.old.input }
+        ensures ended { Ended self.old.input self.new.input }
         ensures counted { (right : Bool) × (self.new.tally ≡ counted_in self.old.tally question right) }
     {
         let mut pair = [0.0, 0.0];

@@ -1,5 +1,5 @@
-use Rattle.std.proofs.Common.{◌≡◌, IsSome}
 use Rattle.vectors.proofs.Input.array.Given as goal
+use Rattle.vectors.specs.Ended.{Ended}
 
 abbrev pub invariant-loop-place : goal.invariant-loop-place
-invariant-loop-place g l = IsSome l.initial.self.failed → l.self ≡ l.initial.self
+invariant-loop-place g l = Ended l.initial.self l.self

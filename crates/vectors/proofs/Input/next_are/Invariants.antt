@@ -1,5 +1,5 @@
-use Rattle.std.proofs.Common.{◌≡◌, IsSome}
 use Rattle.vectors.proofs.Input.next_are.Given as goal
+use Rattle.vectors.specs.Ended.{Ended}
 
 abbrev pub invariant-loop-word : goal.invariant-loop-word
-invariant-loop-word l = IsSome l.initial.self.failed → l.self ≡ l.initial.self
+invariant-loop-word l = Ended l.initial.self l.self

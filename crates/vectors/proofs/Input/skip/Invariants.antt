@@ -1,5 +1,5 @@
-use Rattle.std.proofs.Common.{◌≡◌, IsSome}
 use Rattle.vectors.proofs.Input.skip.Given as goal
+use Rattle.vectors.specs.Ended.{Ended}
 
 abbrev pub invariant-loop : goal.invariant-loop
-invariant-loop l = IsSome l.initial.self.failed → l.self ≡ l.initial.self
+invariant-loop l = Ended l.initial.self l.self
