@@ -1,7 +1,7 @@
 mod Above
 pub mod Sides
-pub mod Within
 pub mod Decoded
+pub mod Chunks
 pub mod Scanning
 pub mod Replies
 pub mod Laws

@@ -1,10 +1,16 @@
 -- The scan of readings in bytes for either crossover: the sides of what is sought. Definitions only.
-use Rattle.std.specs.Prelude.{ℕ, ◌^◌, Bool, false, not, ◌&&◌, cond, ltb}
+use Rattle.std.specs.Prelude.{ℕ, ◌^◌, Bool, false, not, ◌&&◌, cond, ltb, List, map}
 use Rattle.std.specs.Float.{binary64}
 use Rattle.std.specs.Float.Ieee.{neg, lt, of_bits}
 use Rattle.bode.specs.Bode.{f180, Crossover, Gain, Phase}
+use Rattle.bode.specs.declared.Reading.{Reading}
+use Rattle.panel.specs.Panel.{reading_at}
 use Rattle.panel.specs.declared.Side.{Side}
 use Rattle.panel.specs.declared.Side.TheVariants.{Above, Below, Neither}
+
+-- readings of 24 bytes each
+abbrev pub read : List (List ℕ) → List Reading
+read l = map (λ r. reading_at r 0) l
 
 -- the place of the value that tells in the bytes of a reading
 abbrev pub place_of : Crossover → ℕ
