@@ -1,4 +1,5 @@
-// A curve: the points whose real and imaginary parts stand in two lists of one length. (The Rust and the C interface lend them so.)
+// A curve: the points whose real and imaginary parts stand in two lists of one length. (The Rust and the C interface lend
+// them so.)
 ghost use Rattle.std.specs.Prelude.{◌≡◌, length, IfOk};
 ghost use Rattle.sweep.specs.Refusal.{refusal_of};
 ghost use Rattle.nyquist.specs.Curve.{points, point_square, least_square, curve_refusal};

@@ -57,7 +57,7 @@ impl Readings<Reading> for Bytes<'_> {
                 db: wire::f64_at(bytes, 8),
                 phase: wire::f64_at(bytes, 16),
             },
-            None => <Reading as sweep::Reading>::new(0.0, 0.0, 0.0),
+            None => sweep::Reading::zeros(),
         }
     }
 }

@@ -1,4 +1,5 @@
-// Three lists of one length: the frequencies of a sweep, and two values at each. (The Rust and the C interface lend them so.)
+// Three lists of one length: the frequencies of a sweep, and two values at each. (The Rust and the C interface lend them
+// so.)
 ghost use Rattle.std.specs.Prelude.{◌≡◌, length, get_or, IfOk};
 ghost use Rattle.sweep.specs.Refusal.{SameLength, refusal_of, lists_refusal};
 ghost use Rattle.sweep.specs.Scan.{zip3};
