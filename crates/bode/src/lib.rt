@@ -49,10 +49,7 @@ impl Crossing<Reading> for Gain {
     ghost pair = { λ s. gain_pair };
 
     fn pair(&self, a: Reading, b: Reading) -> Option<f64> {
-        if sweep::crosses_zero(a.db, b.db) {
-            return Some(self.between(a, b));
-        }
-        None
+        sweep::crosses_zero(a.db, b.db).then(|| self.between(a, b))
     }
 }
 
@@ -75,10 +72,7 @@ impl Crossing<Reading> for Phase {
     ghost pair = { λ s. phase_pair };
 
     fn pair(&self, a: Reading, b: Reading) -> Option<f64> {
-        if sweep::crosses_level(-180.0, a.phase, b.phase) {
-            return Some(self.between(a, b));
-        }
-        None
+        sweep::crosses_level(-180.0, a.phase, b.phase).then(|| self.between(a, b))
     }
 }
 
@@ -103,7 +97,8 @@ fn value_at(x: f64, w0: f64, w1: f64, v0: f64, v1: f64) -> f64
     v0 + t * (v1 - v0)
 }
 
-// The gain margin at a phase crossover, in the pair whose frequencies enclose it: the magnitude there, negated.
+// The gain margin at a phase crossover, in the pair whose frequencies enclose it: the magnitude there, negated. (This and the
+// next are a type each, as the two crossings are: what they make of two readings is all that they have but for the place.)
 #[derive(Clone, Copy)]
 struct GainMargin {
     at: f64,
@@ -114,10 +109,8 @@ impl Crossing<Reading> for GainMargin {
     ghost pair = { λ m. gain_margin_pair m.at };
 
     fn pair(&self, a: Reading, b: Reading) -> Option<f64> {
-        if sweep::encloses(self.at, a.omega, b.omega) {
-            return Some(-value_at(self.at, a.omega, b.omega, a.db, b.db));
-        }
-        None
+        sweep::encloses(self.at, a.omega, b.omega)
+            .then(|| -value_at(self.at, a.omega, b.omega, a.db, b.db))
     }
 }
 
@@ -132,10 +125,8 @@ impl Crossing<Reading> for PhaseMargin {
     ghost pair = { λ m. phase_margin_pair m.at };
 
     fn pair(&self, a: Reading, b: Reading) -> Option<f64> {
-        if sweep::encloses(self.at, a.omega, b.omega) {
-            return Some(180.0 + value_at(self.at, a.omega, b.omega, a.phase, b.phase));
-        }
-        None
+        sweep::encloses(self.at, a.omega, b.omega)
+            .then(|| 180.0 + value_at(self.at, a.omega, b.omega, a.phase, b.phase))
     }
 }
 
@@ -167,7 +158,7 @@ pub fn phase_crossover_frequency(
 }
 
 // The gain margin in dB: the negated magnitude at the phase crossover. (This and the next are five lines each, of which two name
-// what differs: one function of both, passed a crossing and a closure that makes another, would be longer.)
+// what differs: one function of both, passed a crossing and a closure that makes another, would be longer. Document 01 has the `match`.)
 #[tactic(auto, unfolding(sweep::specs::Scan::scanned_by, crate::specs::Bode::phase_crossover, crate::specs::Bode::gain_margin, crate::specs::Bode::margin_at), using(sweep::proofs::Answers::scan_turned_away, sweep::proofs::Answers::scan_let_through))]
 pub fn gain_margin(omega: &[f64], db: &[f64], phase: &[f64]) -> Result<Option<f64>, FreqError>
     ensures { outcome_of result ≡ scanned_by reading gain_margin omega.now db.now phase.now }

@@ -61,8 +61,9 @@ impl BodeSummary {
         }
     }
 
-    // The summary with a part's readings behind it, or the refusal; the caller then still has the summary as it came.
-    #[tactic(auto, using(sweep::proofs::Runs::feed_turned_away, sweep::proofs::Runs::feed_let_through))]
+    // The summary with a part's readings behind it, or the refusal; the caller then still has the summary as it came. (Each kind
+    // has this in two lines, of which one names what differs.)
+    #[tactic(auto, unfolding(sweep::specs::Runs::left_after))]
     pub fn feed(self, omega: &[f64], db: &[f64], phase: &[f64]) -> Result<BodeSummary, FreqError>
         ensures { (refusal_of result ≡ lists_refusal omega.now db.now phase.now)
             × (left_by result self ≡ left_after (lists_refusal omega.now db.now phase.now) self
@@ -103,7 +104,7 @@ impl BodeSummary {
     }
 }
 
-#[tactic(auto, unfolding(crate::specs::Plain::plain_of), using(sweep::proofs::Plain::read_number, sweep::proofs::Plain::crossing_number, sweep::proofs::Plain::crossing_float))]
+#[tactic(auto, unfolding(crate::specs::Plain::plain_of))]
 impl From<BodeSummary> for BodePlain {
     ghost use Rattle.std.specs.Prelude.{◌≡◌};
     ghost use Rattle.bode.specs.Plain.{plain_of};
@@ -125,7 +126,7 @@ impl From<BodeSummary> for BodePlain {
 }
 
 // The summary of plain numbers, whatever they are.
-#[tactic(auto, unfolding(crate::specs::Plain::from_plain), using(sweep::proofs::Plain::some_marked))]
+#[tactic(auto, unfolding(crate::specs::Plain::from_plain))]
 impl From<BodePlain> for BodeSummary {
     ghost use Rattle.std.specs.Prelude.{◌≡◌};
     ghost use Rattle.bode.specs.Plain.{from_plain};

@@ -16,8 +16,8 @@ pub extern "C" fn bazintroa_stability_region(poles: &[f64; 16], count: usize) ->
     root_locus::stability_region(places::poles_of(poles), count)
 }
 
-// The number of a point; gain, poles, count and the ending's kind and value go to their places, one for each, as the C
-// interface has them.
+// The number of a point; gain, poles, count and the ending's kind and value go to their places. (One for each, as the C
+// interface has them, where `places::Answer` has one place.)
 fn put_point(
     point: Result<LocusPoint, FreqError>,
     gain: &mut f64,

@@ -1,6 +1,6 @@
 // The value of a transfer function and the four responses of a loop, at a frequency whose cosines and sines are lent.
-// (Each array and number of a loop is a parameter of its own, nine of a response and six of `loop_of`: the C interface has
-// them so.)
+// (The C interface has each response as a function, and each array and number of a loop as a parameter: nine of a response,
+// of which `loop_of` is handed six.)
 #![tactic(auto, unfolding(transfer_fn::specs::Evaluation::outcome_of))]
 
 ghost use Rattle.std.specs.Prelude.{◌≡◌};

@@ -22,7 +22,9 @@ fn first_other(x: &[f64], y: &[f64]) -> Option<usize> {
         .position(|(x, y)| wire::f64_to_bits(*x) != wire::f64_to_bits(*y))
 }
 
-// A number and places, each with what is expected; where they differ, what they are. No list has more than 16 places.
+// A number and places, each with what is expected; where they differ, what they are. No list has more than 16 places, so
+// place 16 is told where all are the same. (A call that returns no number has 0 for it: functions without one beside these
+// would be longer.)
 pub(crate) fn list(
     rt: &impl Print,
     name: &str,

@@ -58,7 +58,7 @@ impl CurveSummary {
     }
 
     // The summary with a part's points behind it, or the refusal; the caller then still has the summary as it came.
-    #[tactic(auto, unfolding(crate::specs::Summary::summary_of, crate::specs::Summary::behind, crate::specs::Summary::fed_by), using(sweep::proofs::Runs::feed_turned_away, sweep::proofs::Runs::feed_let_through))]
+    #[tactic(auto, unfolding(crate::specs::Summary::summary_of, crate::specs::Summary::behind, crate::specs::Summary::fed_by, sweep::specs::Runs::left_after))]
     pub fn feed(self, re: &[f64], im: &[f64]) -> Result<CurveSummary, FreqError>
         ensures { (refusal_of result ≡ curve_refusal re.now im.now)
             × (left_by result self ≡ left_after (curve_refusal re.now im.now) self

@@ -26,6 +26,7 @@ pub fn poles_of(parts: &[f64; 16]) -> [Complex; 8]
     )
 }
 
+// (No `From`, as of `poles_of`.)
 pub fn put_poles(z: [Complex; 8], parts: &mut [f64; 16])
     ensures { parts.new ≡ parts_of z }
 {
@@ -111,7 +112,7 @@ impl<A: Answer> Answer for Option<A> {
     }
 }
 
-// A refusal's number.
+// A refusal's number. (One impl of this and the next would need a trait that numbers what is refused, and be no shorter.)
 impl<A: Answer> Answer for Result<A, FreqError> {
     type Place = A::Place;
 

@@ -19,14 +19,10 @@ const QUESTIONS: [(u64, &str); 3] = [
 
 // Whether the list holds the values that are read next, as many as are given, and behind them marks.
 fn holds(input: &mut Input, list: &[f64], given: u64) -> bool {
-    let mut right = true;
-    for (i, x) in list.iter().enumerate() {
-        let value = if (i as u64) < given {
-            input.number()
-        } else {
-            f64_to_bits(MARK)
-        };
-        right &= f64_to_bits(*x) == value;
+    let (filled, rest) = list.split_at(list.len().min(given as usize));
+    let mut right = rest.iter().all(|x| f64_to_bits(*x) == f64_to_bits(MARK));
+    for x in filled {
+        right &= input.next_are(&[f64_to_bits(*x)]);
     }
     right
 }

@@ -4,9 +4,8 @@
 
 use complex::Complex;
 use root_locus::{Ending, LocusPoint};
-use std::{array, io};
+use std::io;
 use sweep::FreqError;
-use transfer_fn::TransferFn;
 use vectors::{Input, Replay};
 use wire::f64_to_bits;
 
@@ -25,11 +24,8 @@ const NO_POINT: LocusPoint = LocusPoint {
 
 // Whether the next words are the parts of eight poles, those past the count among them.
 fn poles_are_next(input: &mut Input, poles: [Complex; 8]) -> bool {
-    let mut same = true;
-    for z in poles {
-        same &= input.next_are(&[f64_to_bits(z.re), f64_to_bits(z.im)]);
-    }
-    same
+    let words = poles.map(|z| [f64_to_bits(z.re), f64_to_bits(z.im)]);
+    input.next_are(words.as_flattened())
 }
 
 // A refused point has no values: the oracle writes zeros for them.
@@ -49,22 +45,14 @@ fn ask_locus(replay: &mut Replay) {
     let order = input.number() as usize;
     let n = input.number() as usize;
     let i = input.number() as usize;
-    let tf = TransferFn {
-        b: input.array(),
-        a: input.array(),
-        order,
-    };
+    let tf = places::transfer_fn(&input.array(), &input.array(), order);
     let right = is_next(input, root_locus::locus_point(tf, k_max, n, i));
     replay.tally.count(1, right);
 }
 
-fn read_poles(input: &mut Input) -> [Complex; 8] {
-    array::from_fn(|_| Complex::new(input.float(), input.float()))
-}
-
 fn ask_stability(replay: &mut Replay) {
     let count = replay.input.number() as usize;
-    let poles = read_poles(&mut replay.input);
+    let poles = places::poles_of(&replay.input.array());
     let stable = root_locus::stability_region(poles, count);
     replay.compare(2, &[u64::from(stable)]);
 }

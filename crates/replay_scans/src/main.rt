@@ -3,7 +3,7 @@
 #![tactic(auto)]
 
 use bode::Reading;
-use std::{array, io};
+use std::io;
 use vectors::Replay;
 
 const QUESTIONS: [(u64, &str); 9] = [
@@ -21,20 +21,16 @@ const QUESTIONS: [(u64, &str); 9] = [
 // The words of an answer: its number, and the bits of its value.
 const ANSWER: usize = 2;
 
-fn float_at(list: &[f64], i: usize) -> f64 {
-    list.get(i).copied().unwrap_or(0.0)
-}
-
 // The readings of a sweep, with zeros behind them.
 fn readings(omega: &[f64], db: &[f64], phase: &[f64]) -> [Reading; 5000] {
-    array::from_fn(|i| Reading {
-        omega: float_at(omega, i),
-        db: float_at(db, i),
-        phase: float_at(phase, i),
-    })
+    let mut readings = [sweep::Reading::zeros(); 5000];
+    for (((place, omega), db), phase) in readings.iter_mut().zip(omega).zip(db).zip(phase) {
+        *place = sweep::Reading::new(*omega, *db, *phase);
+    }
+    readings
 }
 
-// Lists of different lengths are no readings, and the answer is to nothing then.
+// (Three slices, as long as they may be refused: `sweep::Lists` holds what is not.) Lists of different lengths are no readings, and the answer is to nothing then.
 fn ask_readings(replay: &mut Replay, omega: &[f64], db: &[f64], phase: &[f64]) {
     let n = omega.len();
     if n <= 5000 && db.len() == n && phase.len() == n {

@@ -26,11 +26,7 @@ fn ask(replay: &mut Replay, l: LoopShaping, cosines: &[f64], sines: &[f64]) {
 
 // The coefficients of a transfer function of a given order.
 fn transfer_fn_of(input: &mut Input, order: u64) -> TransferFn {
-    TransferFn {
-        b: input.array(),
-        a: input.array(),
-        order: order as usize,
-    }
+    places::transfer_fn(&input.array(), &input.array(), order as usize)
 }
 
 // Reads and answers the rest of a case.

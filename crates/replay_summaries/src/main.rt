@@ -24,7 +24,8 @@ const QUESTIONS: [(u64, &str); 9] = [
     (0, "no question"),
 ];
 
-// The number of a feed. The summary is the new one, unless the feed was refused.
+// The number of a feed. The summary is the new one, unless the feed was refused. (c_summaries has this of plain numbers, for
+// itself alone.)
 fn put_fed<S: Drop>(summary: &mut S, fed: Result<S, FreqError>) -> u64 {
     match fed {
         Ok(new) => {
@@ -35,9 +36,10 @@ fn put_fed<S: Drop>(summary: &mut S, fed: Result<S, FreqError>) -> u64 {
     }
 }
 
-// What a case asks of a summary of one kind.
+// What a case asks of a summary of one kind. (The library's three kinds have no trait: C calls each by its own name, and only
+// this program speaks of any.)
 trait Summary: Copy {
-    // Whether a part has a third list.
+    // Whether a part has a third list. Where it has none an empty one is passed.
     const HAS_THIRD: bool;
 
     fn none() -> Self;

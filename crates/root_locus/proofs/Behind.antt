@@ -1,4 +1,4 @@
--- Roots with a tail behind them that the search leaves alone: what docs/requests/W1.md names. Assumes nothing.
+-- Roots with a tail behind them that the search leaves alone: what docs/requests/W1.md names, and no proof here needs. Assumes nothing.
 use Rattle.std.proofs.Common.{◌≡◌, ℕ, zero, suc, ◌+◌, ◌<◌, ◌≤◌, Bool, true, false, cond, List, ◌++◌, length, get_or, refl, ◌∙◌, arith, length-set}
 use lib.ListN.{get_or-append}
 use lib.Seq.{set-append_left}

@@ -1,5 +1,5 @@
 -- A list that a loop runs through by its index. The loop's invariant, `push_all f s (drop k l) ≡ w`, says that what is left gives the whole run's outcome w; where
--- a loop runs through the first n of a list and a definition f of lists says the outcome, it is `f (drop i (take n l)) ≡ w`. Assumes nothing.
+-- a loop runs through the first n of a list and a definition f of lists says the outcome, it is `f (drop i (take n l)) ≡ w`. (Laws that docs/PORT.md and docs/requests/W1.md name, and no proof here needs.) Assumes nothing.
 use Rattle.std.proofs.Common.{◌≡◌, ℕ, ◌+◌, ◌<◌, ◌≤◌, List, [], ◌∷◌, length, get_or, take, drop, add-one, drop_of_length-le, length-take-le, drop-cons, get_or-take}
 use Rattle.laws.specs.Loops.{push_all}
 

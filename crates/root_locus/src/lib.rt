@@ -63,7 +63,8 @@ static START: [[f64; 2]; 30] = [
 ];
 
 // Roots with their count, and how the search for them ended; the places past the count hold (0, 0). They are what the
-// formulas and the search give: nothing says that the polynomial is 0 there. (An array with a count: there is no heap.)
+// formulas and the search give: nothing says that the polynomial is 0 there. (An array with a count: there is no heap. So what
+// fills such an array asks for 8 numbers at most, each of its own argument.)
 #[derive(Clone, Copy)]
 struct Roots {
     z: [Complex; 8],
@@ -88,7 +89,8 @@ impl Roots {
     }
 }
 
-// The pairs of a degree. (Below 4 nothing is searched for.)
+// The pairs of a degree, in one table as the definition has them: 4 of degree 4, 5 of degree 5 and on. (Below 4 nothing is
+// searched for.)
 #[tactic(auto, unfolding(crate::specs::StartingPoints::start_table, crate::specs::StartingPoints::pair, crate::specs::StartingPoints::first_point))]
 fn start(degree: usize) -> &'static [[f64; 2]]
     requires { degree ≤ 8 }
@@ -103,15 +105,15 @@ fn start(degree: usize) -> &'static [[f64; 2]]
     }
 }
 
-// The starting points of a degree.
+// The starting points of a degree. (By place, as `loop_polynomial` says.)
 #[tactic(auto, unfolding(crate::specs::StartingPoints::starting_points, crate::specs::StartingPoints::starting_point, crate::specs::StartingPoints::as_complex), using(laws::proofs::Loops::filled_none, laws::proofs::Loops::filled_more, laws::proofs::Loops::arrived, crate::proofs::Padding::filled_padded, crate::proofs::Table::degree_pairs, crate::proofs::Table::degree_pair))]
 fn starting_points(degree: usize) -> [Complex; 8]
     requires { degree ≤ 8 }
     ensures { result ≡ padded (starting_points degree) }
 {
     let mut z = [Complex::from_real(0.0); 8];
-    for (i, [cosine, sine]) in start(degree).iter().enumerate() {
-        z[i] = Complex::new(*cosine, *sine);
+    for (i, pair) in start(degree).iter().enumerate() {
+        z[i] = Complex::from(*pair);
     }
     z
 }
@@ -132,7 +134,8 @@ fn eval_poly_complex(norm: &[f64], z: Complex) -> Complex
 // The method of Durand and Kerner: in up to 200 rounds each root moves by the polynomial's value there over the
 // product of its differences to the others, and the next one sees it moved. Where that product is too small the
 // root stays. (The loops are nested and have labels by a rule of the project: a root that stays goes on by its label, and
-// a round that settles leaves the outer one.)
+// a round that settles leaves the outer one. They go by place, since each root is written while the others are read. The
+// ending is made once, behind them, as its definition is.)
 #[tactic(auto, unfolding(crate::specs::Search::one_round, crate::specs::Search::differences), using(laws::proofs::Loops::up_begin, laws::proofs::Loops::up_next, laws::proofs::Loops::up_end, crate::proofs::Rounds::root_skipped, crate::proofs::Rounds::round_more))]
 fn durand_kerner(norm: &[f64], z: &mut [Complex]) -> Ending
     requires { length z.old ≡ length norm.now }
@@ -172,7 +175,7 @@ fn durand_kerner(norm: &[f64], z: &mut [Complex]) -> Ending
     Ending::of_rounds(used, last_change)
 }
 
-// The roots of degrees 4 to 8: the search on the coefficients over the leading one.
+// The roots of degrees 4 to 8: the search on the coefficients over the leading one. (By place, as `loop_polynomial` says.)
 #[tactic(auto, unfolding(crate::specs::Roots::quotient_at), using(laws::proofs::Loops::filled_none, laws::proofs::Loops::filled_more))]
 fn companion_matrix_roots(lead: f64, rest: &[f64]) -> Roots
     requires { length rest.now ≤ 8 }
@@ -304,7 +307,8 @@ pub fn stability_region(poles: [Complex; 8], count: usize) -> bool
 }
 
 // A point of the root locus: the gain and so many poles, with (0, 0) in the places past them, and how the search for
-// them ended. (The poles are an array with a count, since the C interface hands them on so.)
+// them ended. (The poles are an array with a count, since the C interface hands them on so, and fields here, as the Rust's are,
+// while `Roots` is the search's own.)
 #[derive(Clone, Copy)]
 pub struct LocusPoint {
     pub gain: f64,
@@ -314,7 +318,8 @@ pub struct LocusPoint {
 }
 
 // The conditions of a locus point but for the last one, on the degree that is left, which a degree of 0 passes. (A grid's
-// check is no part of them: its first two stand here too, but its third comes after those on the order.)
+// check is no part of them: its first two stand here too, but its third comes after those on the order. k_max, n and i stay
+// three parameters, as the Rust and C have them: a struct would be made for this call and the gain's.)
 #[tactic(auto, unfolding(crate::specs::Locus::locus_refusal))]
 fn check_locus(order: usize, k_max: f64, n: usize, i: usize) -> Result<(), FreqError>
     ensures { refusal_of result ≡ locus_refusal order k_max n i 0 }

@@ -17,7 +17,7 @@ ghost use Rattle.scalar.specs.Scalar.{abs_of};
 use std::marker::Model;
 
 // f64's epsilon, 2^-52.
-pub const EPSILON: f64 = 2.220446049250313e-16;
+pub const EPSILON: f64 = f64::EPSILON;
 
 // x with its sign cleared.
 #[tactic(auto, using(crate::proofs::Cases::sign_cleared))]

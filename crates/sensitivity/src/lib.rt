@@ -61,6 +61,7 @@ fn control_sensitivity_of(p: Complex, c: Complex) -> Complex
     c.divide_or_zero(one_plus_l)
 }
 
+// (Cosines and sines are two slices of each call, as the C interface lends them.)
 impl LoopShaping {
     // What `of` makes of the plant's and the controller's values.
     #[tactic(auto, using(crate::proofs::Responses::both_refused, crate::proofs::Responses::both_found))]
@@ -150,11 +151,7 @@ impl sweep::Crossing<Reading> for Equal {
     ghost pair = { λ s. equal_pair };
 
     fn pair(&self, a: Reading, b: Reading) -> Option<f64> {
-        if sweep::crosses_zero(difference(a), difference(b)) {
-            Some(equal_between(a, b))
-        } else {
-            None
-        }
+        sweep::crosses_zero(difference(a), difference(b)).then(|| equal_between(a, b))
     }
 }
 
@@ -184,11 +181,7 @@ impl sweep::Crossing<Reading> for LevelDrop {
     ghost pair = { λ s. drop_pair s.level };
 
     fn pair(&self, a: Reading, b: Reading) -> Option<f64> {
-        if sweep::drops_below(self.level, a.t, b.t) {
-            Some(drop_between(self.level, a, b))
-        } else {
-            None
-        }
+        sweep::drops_below(self.level, a.t, b.t).then(|| drop_between(self.level, a, b))
     }
 }
 

@@ -30,6 +30,7 @@ pub enum FreqError {
 }
 
 impl FreqError {
+    // (`u32::from` would not say that it is document 01's.)
     pub fn number(self) -> u32
         ensures { result ≡ number_of self }
     {
@@ -105,10 +106,7 @@ impl<R: Reading> Readings<R> for &[R] {
     }
 
     fn at(&self, i: usize) -> R {
-        if i < (*self).len() {
-            return self[i];
-        }
-        R::zeros()
+        (*self).get(i).copied().unwrap_or(R::zeros())
     }
 }
 
@@ -120,7 +118,8 @@ pub trait Crossing<R> {
         ensures { result ≡ pair self.now a b };
 }
 
-// The first crossing among neighbours. (By place, which is how the trait lends a reading.)
+// The first crossing among neighbours. (By place: with `find_map` over the places the closure would have to require that i is 1
+// at least, and be no plainer.)
 #[tactic(auto, using(crate::proofs::Scans::pair_next, crate::proofs::Scans::pair_found, crate::proofs::Scans::pairs_done))]
 pub fn first_crossing<R: Reading, S: Readings<R>, C: Crossing<R>>(
     sweep: &S,
@@ -157,7 +156,7 @@ pub fn crosses_zero(a: f64, b: f64) -> bool
     if a * b > 0.0 {
         return false;
     }
-    if b != b {
+    if b.is_nan() {
         return false;
     }
     if a >= 0.0 {

@@ -1,4 +1,4 @@
--- A list that is written from its start: the places behind what is written stay. Assumes nothing.
+-- A list that is written from its start: the places behind what is written stay. (A law that docs/PORT.md names; the check finds `padded` without it.) Assumes nothing.
 use Rattle.std.proofs.Common.{◌≡◌, ℕ, ◌+◌, List, drop, set, sym, ap, ◌∙◌, arith, drop-drop, drop-set-lt}
 use lib.Ieee.{Float}
 

@@ -1,5 +1,5 @@
 -- Counts of the answers that the replay programs compare. Definitions only.
-use Rattle.std.specs.Prelude.{ℕ, ◌+◌, ◌-◌, ◌%◌, ◌^◌, Bool, false, cond, List, replicate, nat_le, nat_lt, slice_index_or, slice_set}
+use Rattle.std.specs.Prelude.{◌≡◌, ℕ, ◌+◌, ◌-◌, ◌%◌, ◌^◌, Bool, false, cond, List, replicate, nat_le, nat_lt, slice_index_or, slice_set}
 use Rattle.vectors.specs.declared.Count.{Count}
 use Rattle.vectors.specs.declared.Tally.{Tally}
 
@@ -43,3 +43,7 @@ counted_in t question right =
       wrong = cond t.is_wrong (one_more_at question right t.wrong) t.wrong;
       is_wrong = t.is_wrong;
     }
+
+-- one answer more to this question, right or not
+abbrev pub Counted : Tally → ℕ → Tally → Type 0
+Counted before question after = (right : Bool) × (after ≡ counted_in before question right)

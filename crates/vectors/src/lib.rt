@@ -1,14 +1,16 @@
 // Support for the replay programs: the oracle's vectors are read from standard input, a word of eight bytes at a
 // time, and answers are counted. No contract can speak of what is read or printed: a function that reads promises what
 // it does after a read that failed, and one that reads a list its length, and that the places behind it stay.
-// Questions, kinds and calls stay the oracle's numbers: an enum would be made from them by one more match, and that of
-// questions be turned back into the place of its counts.
+// Questions, kinds and calls stay the oracle's numbers, in the programs too: tools/oracle/README.md has them, and an enum
+// would be made from them by one more match, or turned back into the place of its counts. Lists stand in arrays of a fixed
+// size, there being no heap: what does not fit is cut off, or not asked. Each function that reads says `Ended`, since what a
+// call leaves is no invariant of a type.
 #![tactic(auto)]
 
 ghost use Rattle.std.specs.Prelude.{◌≡◌, ◌<◌, Bool, false, IsErr, IsSome, IsTrue, MatchOption};
 ghost use Rattle.vectors.specs.Ended.{Ended};
 ghost use Rattle.vectors.specs.Made.{Made};
-ghost use Rattle.vectors.specs.Tally.{unmarked_of, known_of, one_more, none_asked, begun_with, counted_in};
+ghost use Rattle.vectors.specs.Tally.{unmarked_of, known_of, one_more, none_asked, begun_with, counted_in, Counted};
 
 use places::Answer;
 use std::io::{ErrorKind, Print, Read, Stdin};
@@ -16,7 +18,7 @@ use std::{fmt, io};
 use wire::f64_to_bits;
 
 // Standard input. It ends where a read fails; that error is kept for the end of the program, and what was counted is
-// printed first.
+// printed first. (So it is not handed on by `?`, of which each number that is read would have one.)
 #[derive(Drop)]
 pub struct Input {
     stdin: Stdin,
@@ -148,7 +150,7 @@ impl Input {
 pub fn unmarked(head: u64) -> u64
     ensures { result ≡ unmarked_of head }
 {
-    if 128 <= head { head - 128 } else { head }
+    head.checked_sub(128).unwrap_or(head)
 }
 
 // A question from 16 on counts as question 0, which is none.
@@ -181,7 +183,7 @@ impl Count {
 }
 
 // The counts of each question, of cases that are right and of those that are wrong on purpose. `is_wrong` says which the
-// present case is.
+// present case is. (An array of pairs would be indexed by it as a number.)
 #[derive(Clone, Copy)]
 pub struct Tally {
     pub right: [Count; 16],
@@ -246,7 +248,8 @@ impl fmt::Display for Found {
     }
 }
 
-// Cases that are read, and the counts of their answers.
+// Cases that are read, and the counts of their answers. (A program makes one, runs it and ends it: a function of these three
+// would be passed all that each is passed, and could promise nothing.)
 #[derive(Drop)]
 pub struct Replay {
     pub input: Input,
@@ -306,7 +309,7 @@ impl Replay {
     // Counts an answer, given as the words that the oracle writes for it: it is right where they are the next.
     pub fn compare(&mut self, question: u64, words: &[u64])
         ensures ended { Ended self.old.input self.new.input }
-        ensures counted { (right : Bool) × (self.new.tally ≡ counted_in self.old.tally question right) }
+        ensures counted { Counted self.old.tally question self.new.tally }
     {
         let right = self.input.next_are(words);
         self.tally.count(question, right);
@@ -315,7 +318,7 @@ impl Replay {
     // Counts an answer with one value: the oracle writes its number, and the bits of its value, or of 0.0 where it has none.
     pub fn compare_value<A: Answer<Place = f64>>(&mut self, question: u64, answer: A)
         ensures ended { Ended self.old.input self.new.input }
-        ensures counted { (right : Bool) × (self.new.tally ≡ counted_in self.old.tally question right) }
+        ensures counted { Counted self.old.tally question self.new.tally }
     {
         let mut value = 0.0;
         let number = answer.put(&mut value);
@@ -326,7 +329,7 @@ impl Replay {
     // would need a trait of places, and be no shorter.)
     pub fn compare_pair<A: Answer<Place = [f64; 2]>>(&mut self, question: u64, answer: A)
         ensures ended { Ended self.old.input self.new.input }
-        ensures counted { (right : Bool) × (self.new.tally ≡ counted_in self.old.tally question right) }
+        ensures counted { Counted self.old.tally question self.new.tally }
     {
         let mut pair = [0.0, 0.0];
         let number = answer.put(&mut pair);
