@@ -31,10 +31,6 @@ units_of (fin t m e) s a v = ap (λ (x : ℕ). x / down e) v.1 ∙ mul-div_cance
 abbrev Grid : Float → Type 0
 Grid y = (s : Bool) × (q : ℕ) × (j : ℕ) × HasValue y s (q * 2 ^ j) (2 ^ 1074) × (q < 2 ^ 53) × (j < 2046)
 
-top_not_finite : (b s : Bool) → T (finite (cond b (inf s) nan)) → ⊥
-top_not_finite true s t = t
-top_not_finite false s t = t
-
 fields_finite : (s : Bool) (t : ℕ) → T (finite (of_fields binary64 s 2047 t)) → ⊥
 unfolding of_fields
 fields_finite s t h = grind arith
