@@ -2,10 +2,8 @@
 use Prim.Native.Nat.{ℕ, ◌<◌}
 use mathlib.Core.Path.{◌≡◌, refl, sym, ap, ◌∙◌}
 use mathlib.Core.Bool.{cond}
-use native.Mathlib.Omega.{arith}
-use Rattle.std.specs.Prelude.{Result, Ok, Err}
 use lib.Dec.{T, eqb, ltb, ltb→lt}
-use Rattle.sweep.specs.Refusal.{number_of, refusal_of}
+use Rattle.sweep.specs.Refusal.{number_of}
 use Rattle.sweep.specs.declared.FreqError.{FreqError}
 use Rattle.sweep.specs.declared.FreqError.TheVariants.{InsufficientPoints, InvalidFrequencyRange, InvalidParameter, LengthsDiffer, CubicLeftOut, TooFewPairs, NoRoom, TooMany, WrongOrder, WrongIndex, WrongByteCount}
 
