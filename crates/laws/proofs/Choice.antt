@@ -4,11 +4,13 @@ use mathlib.Core.Path.{◌≡◌, refl, sym, ◌∙◌, ap}
 use mathlib.Core.Bool.{Bool, true, false, cond}
 use mathlib.Core.Logic.{◌⊎◌, inl, inr}
 use mathlib.Core.List.{List, [], ◌∷◌}
-use lib.Dec.{T}
 use lib.Ieee.{Float, lt}
+use lib.Ieee.Bits.{is_true}
+use Rattle.std.specs.Float.{NotNan}
+use Rattle.std.proofs.lemmas.Float.{T_from_true, lt_trans}
 use Rattle.laws.specs.Loops.{push_all}
 use Rattle.laws.specs.Choice.{lesser, greater}
-use Rattle.laws.proofs.Order.{number, lt_numbers, lt_trans, lt_not_trans}
+use Rattle.laws.proofs.Order.{lt_numbers, lt_not_trans}
 
 module _ {A : Type 0} (key : A → Float) where
   pub lesser_taken : (m d : A) → lt (key d) (key m) ≡ true → d ≡ lesser key m d
@@ -28,20 +30,20 @@ module _ {A : Type 0} (key : A → Float) where
       go true = refl
       go false = refl
 
-  pub lesser_number : (a d : A) → T (number (key a)) → T (number (key (lesser key a d)))
+  pub lesser_number : (a d : A) → NotNan (key a) → NotNan (key (lesser key a d))
   unfolding lesser
   lesser_number a d n = go (lt (key d) (key a)) refl
     where
-      go : (b : Bool) → lt (key d) (key a) ≡ b → T (number (key (cond b d a)))
+      go : (b : Bool) → lt (key d) (key a) ≡ b → NotNan (key (cond b d a))
       go true e = (lt_numbers (key d) (key a) e).0
       go false e = n
 
-  pub lesser_assoc : (m a d : A) → T (number (key a)) → lesser key (lesser key m a) d ≡ lesser key m (lesser key a d)
+  pub lesser_assoc : (m a d : A) → NotNan (key a) → lesser key (lesser key m a) d ≡ lesser key m (lesser key a d)
   unfolding lesser
   lesser_assoc m a d n = go (lt (key d) (key a)) (lt (key a) (key m)) refl refl
     where
       go : (p q : Bool) → lt (key d) (key a) ≡ p → lt (key a) (key m) ≡ q → lesser key (lesser key m a) d ≡ lesser key m (lesser key a d)
-      go true true e f = rw (f, e) (let g : lt (key d) (key m) ≡ true = lt_trans (key d) (key a) (key m) e f in rw g)
+      go true true e f = rw (f, e) (let g : lt (key d) (key m) ≡ true = is_true _ (lt_trans (key d) (key a) (key m) (T_from_true _ e) (T_from_true _ f)) in rw g)
       go true false e f = rw (f, e)
       go false true e f = rw (f, e) (rw f)
       go false false e f = let g : lt (key d) (key m) ≡ false = lt_not_trans (key d) (key a) (key m) n e f in rw (f, e) (rw (g, f))
@@ -51,12 +53,12 @@ module _ {A : Type 0} (key : A → Float) where
     abbrev pub least_from : A → List R → A
     least_from m l = push_all (λ (s : A) (r : R). lesser key s (of r)) m l
 
-    pub least_number : (l : List R) (a : A) → T (number (key a)) → T (number (key (least_from a l)))
+    pub least_number : (l : List R) (a : A) → NotNan (key a) → NotNan (key (least_from a l))
     least_number [] a n = n
     least_number (r ∷ l) a n = least_number l (lesser key a (of r)) (lesser_number a (of r) n)
 
     -- a start that is the lesser of two
-    pub least_spread : (l : List R) (m a : A) → T (number (key a)) → least_from (lesser key m a) l ≡ lesser key m (least_from a l)
+    pub least_spread : (l : List R) (m a : A) → NotNan (key a) → least_from (lesser key m a) l ≡ lesser key m (least_from a l)
     least_spread [] m a n = refl
     least_spread (r ∷ l) m a n =
         ap (λ (s : A). least_from s l) (lesser_assoc m a (of r) n) ∙ least_spread l m (lesser key a (of r)) (lesser_number a (of r) n)

@@ -3,10 +3,10 @@
 use mathlib.Core.Path.{◌≡◌, refl, sym, ◌∙◌, ap}
 use mathlib.Core.Bool.{Bool, true, false, cond}
 use mathlib.Core.List.{List, [], ◌∷◌, ◌++◌}
-use lib.Dec.{T}
 use lib.Ieee.{Float, lt}
+use Rattle.std.specs.Float.{NotNan}
 use Rattle.laws.specs.Choice.{lesser}
-use Rattle.laws.proofs.Order.{number, lt_not_trans, lt_asym, lt_irrefl}
+use Rattle.laws.proofs.Order.{lt_not_trans, lt_asym, not_lt_itself}
 use Rattle.laws.proofs.Loops.{pushed_append}
 use Rattle.laws.proofs.Choice.{lesser_left, lesser_number, least_from, least_number, least_spread}
 
@@ -18,25 +18,25 @@ module _ {A : Type 0} (key : A → Float) where
     where
       go : (b : Bool) → lt (key d) (key m) ≡ b → lt (key m) (key (cond b d m)) ≡ false
       go true e = lt_asym (key d) (key m) e
-      go false e = lt_irrefl (key m)
+      go false e = not_lt_itself (key m)
 
   second_not_less : (m d : A) → lt (key d) (key (lesser key m d)) ≡ false
   unfolding lesser
   second_not_less m d = go (lt (key d) (key m)) refl
     where
       go : (b : Bool) → lt (key d) (key m) ≡ b → lt (key d) (key (cond b d m)) ≡ false
-      go true e = lt_irrefl (key d)
+      go true e = not_lt_itself (key d)
       go false e = e
 
   module _ {R : Type 0} (of : R → A) where
-    start_not_less : (l : List R) (s : A) → T (number (key s)) → lt (key s) (key (least_from key of s l)) ≡ false
-    start_not_less [] s n = lt_irrefl (key s)
+    start_not_less : (l : List R) (s : A) → NotNan (key s) → lt (key s) (key (least_from key of s l)) ≡ false
+    start_not_less [] s n = not_lt_itself (key s)
     start_not_less (r ∷ l) s n =
         let t = lesser key s (of r) in
         let k = lesser_number key s (of r) n in
         lt_not_trans (key s) (key t) (key (least_from key of t l)) k (first_not_less s (of r)) (start_not_less l t k)
 
-    module _ (s : A) (n : T (number (key s))) where
+    module _ (s : A) (n : NotNan (key s)) where
       abbrev least : List R → A
       least l = least_from key of s l
 

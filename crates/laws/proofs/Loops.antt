@@ -8,7 +8,7 @@ use native.Mathlib.Nat.{eq-or-lt_of_le}
 use native.Mathlib.Numerals.{add-one}
 use native.Mathlib.Omega.{arith}
 use mathlib.Core.List.{List, [], ◌∷◌, ◌++◌}
-use lib.ListN.{length, set, take, drop, get_or, length-append, length-drop, get_or-append}
+use lib.ListN.{length, set, take, drop, get_or, length-append, get_or-append}
 use lib.Seq.{set_at, take_at, drop_at, get_or_at, drop-cons, append_snoc}
 use Rattle.laws.specs.Loops.{count_up, up_to, filled, push_all}
 
@@ -57,10 +57,6 @@ module _ {A : Type 0} (g : ℕ → A) where
     filled_more {i} {v} {k} e h ev =
         rw (e, ev, add-one, drop-cons l i (g i) h)
         (set_at (up_to g i) (get_or l i (g i)) (drop (suc i) l) (g i) i (length-up_to i) ∙ sym (append_snoc (up_to g i) (g i) (drop (suc i) l)))
-
-    pub length-filled : {i : ℕ} {k : List A} → k ≡ filled g l i → i ≤ length l → length k ≡ length l
-    unfolding filled
-    length-filled {i} e h = rw e (simp (length-append, length-up_to, length-drop) (omega arith))
 
     -- what was filled, and that nothing else changed
     pub take-filled : (n : ℕ) → take n (filled g l n) ≡ up_to g n

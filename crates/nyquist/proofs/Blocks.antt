@@ -5,7 +5,7 @@ use mathlib.Core.Bool.{Bool, true, false, true≢false}
 use mathlib.Core.List.{List, [], ◌∷◌, ◌++◌, append-nil}
 use native.Mathlib.Omega.{arith}
 use lib.ListN.{length, length-append}
-use lib.Ieee.{Float, lt, of_bits}
+use lib.Ieee.{Float, lt, is_nan, of_bits}
 use Rattle.laws.specs.Choice.{lesser}
 use Rattle.laws.proofs.Order.{lt_not_trans}
 use Rattle.laws.proofs.Choice.{lesser_taken, lesser_left, lesser_assoc}
@@ -45,7 +45,7 @@ module _ {whole : List Complex} {least square : Float} {deciding : List Complex}
     where
       go : (b : Bool) → lt square infinity ≡ b → b ≡ true
       go true f = refl
-      go false f = absurd (true≢false (sym t ∙ lt_not_trans square infinity least (unfold of_bits in tt) f (none_above least)))
+      go false f = absurd (true≢false (sym t ∙ lt_not_trans square infinity least (unfold of_bits is_nan in tt) f (none_above least)))
 
   pub blocks_taken : lt square least ≡ true → Blocks whole square block rest
   blocks_taken t =

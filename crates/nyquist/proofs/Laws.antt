@@ -6,10 +6,10 @@ use mathlib.Core.List.{List, [], ◌∷◌, ◌++◌}
 use native.Mathlib.Omega.{arith}
 use lib.IntN.{pos}
 use lib.Dec.{T}
-use lib.Ieee.{Float, binary64, mul, lt, of_int, of_bits, fits}
+use lib.Ieee.{Float, binary64, mul, lt, is_nan, of_int, of_bits, fits}
 use lib.Ieee.Positive.{positive}
+use Rattle.std.specs.Float.{NotNan}
 use Rattle.laws.specs.Choice.{lesser}
-use Rattle.laws.proofs.Order.{number}
 use Rattle.laws.proofs.Least.{least_append, least_passes, least_not_above}
 use Rattle.scalar.specs.Scalar.{f0}
 use Rattle.scalar.proofs.Monotone.{itself}
@@ -25,8 +25,8 @@ pub distance_of_none : distance_of [] ≡ f0
 unfolding distance_of or_zero least_distance lt of_bits
 distance_of_none = refl
 
-largest_number : T (number largest)
-unfolding of_bits
+largest_number : NotNan largest
+unfolding of_bits is_nan
 largest_number = tt
 
 -- one curve behind another has the lesser of their least distances

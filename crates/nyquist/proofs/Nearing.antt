@@ -2,11 +2,15 @@
 use mathlib.Core.Path.{◌≡◌, refl, sym, ap, ◌∙◌}
 use mathlib.Core.Bool.{Bool, true, false, true≢false}
 use mathlib.Core.List.{List, [], ◌∷◌, ◌++◌}
-use lib.Dec.{T}
-use lib.Ieee.{Float, nan, inf, fin, lt, le, of_bits}
+use lib.Dec.{T_not}
+use lib.Ieee.{Float, nan, inf, fin, lt, le, is_nan, of_bits}
+use lib.Ieee.Bits.{is_true}
+use Rattle.std.specs.Float.{NotNan}
+use Rattle.std.proofs.lemmas.Bool.{false_from_ne_true}
+use Rattle.std.proofs.lemmas.Float.{T_from_true, T_from_false, le_refl, lt_of_le_of_lt}
 use Rattle.std.specs.Prelude.{Option, Some, None}
 use Rattle.laws.specs.Choice.{lesser}
-use Rattle.laws.proofs.Order.{number, lt_numbers, lt_irrefl, le_lt_trans, le_of_not_lt, not_le_of_lt}
+use Rattle.laws.proofs.Order.{lt_numbers, not_lt_itself, not_le_of_lt}
 use Rattle.laws.proofs.Choice.{lesser_taken, lesser_left, lesser_key, least_from, least_number, least_spread}
 use Rattle.laws.proofs.Least.{least_append}
 use Rattle.scalar.specs.Sqrt.{sqrt_of}
@@ -16,8 +20,8 @@ use Rattle.nyquist.specs.Curve.{point_square, least_square, infinity, or_zero, d
 use Rattle.nyquist.specs.Summary.{key_of, nearest_of, first_within}
 use Rattle.nyquist.proofs.Roots.{one_root}
 
-pub none_number : T (number (key_of None))
-unfolding key_of of_bits
+pub none_number : NotNan (key_of None)
+unfolding key_of of_bits is_nan
 none_number = tt
 
 -- ---- one curve behind another has the nearer of both nearest points
@@ -25,7 +29,7 @@ pub nearest_append : (l k : List Complex) → lesser key_of (nearest_of l) (near
 unfolding nearest_of
 nearest_append l k = sym (least_append key_of Some None none_number l k)
 
-pub nearest_number : (l : List Complex) → T (number (key_of (nearest_of l)))
+pub nearest_number : (l : List Complex) → NotNan (key_of (nearest_of l))
 unfolding nearest_of
 nearest_number l = least_number key_of Some l None none_number
 
@@ -72,20 +76,12 @@ same_start n l h = go (lt (key_of (nearest_from None l)) (key_of n)) refl
         absurd (true≢false (sym e ∙ ap (λ (a : Option Complex). lt (key_of a) (key_of n)) (s ∙ sym (nearer_of_both n l)) ∙ h))
     go false e = nearer_of_both n l ∙ sym (lesser_left key_of n (nearest_from None l) e)
 
-within_itself : (x : Float) → T (number x) → le x x ≡ true
-within_itself x n = go (le x x) (le_of_not_lt x x n n (lt_irrefl x))
-  where
-    go : (b : Bool) → T b → b ≡ true
-    go true t = refl
-    go false t = absurd t
+within_itself : (x : Float) → NotNan x → le x x ≡ true
+within_itself x n = is_true _ (le_refl x n)
 
 -- what is not below n is not at most what is below n
 not_within : (x m n : Float) → lt x n ≡ false → lt m n ≡ true → le x m ≡ false
-not_within x m n h k = go (le x m) (λ (t : T (le x m)). true≢false (sym (le_lt_trans x m n (lt_numbers m n k).1 t k) ∙ h))
-  where
-    go : (b : Bool) → (T b → ⊥) → b ≡ false
-    go true f = absurd (f tt)
-    go false f = refl
+not_within x m n h k = false_from_ne_true _ (λ e. T_not _ (T_from_false _ h) (lt_of_le_of_lt x m n (T_from_true _ e) (T_from_true _ k)))
 
 within_here : (m : Float) (z : Complex) (l : List Complex) → le (point_square z) m ≡ true → first_within m (z ∷ l) ≡ Some z
 unfolding first_within
@@ -100,7 +96,7 @@ abbrev Found : Option Complex → List Complex → List Complex → Type 0
 Found n l k = first_within (key_of (nearest_from n l)) k ≡ nearest_from n l
 
 -- z is nearer than any before it, and the nearest of l may be nearer yet
-found_from : (z : Complex) (l : List Complex) → T (number (key_of (Some z))) → (lt (key_of (nearest_from (Some z) l)) (key_of (Some z)) ≡ true → Found (Some z) l l) → Found (Some z) l (z ∷ l)
+found_from : (z : Complex) (l : List Complex) → NotNan (key_of (Some z)) → (lt (key_of (nearest_from (Some z) l)) (key_of (Some z)) ≡ true → Found (Some z) l l) → Found (Some z) l (z ∷ l)
 unfolding key_of
 found_from z l p h = go (lt (key_of (nearest_from (Some z) l)) (key_of (Some z))) refl
   where
@@ -110,7 +106,7 @@ found_from z l p h = go (lt (key_of (nearest_from (Some z) l)) (key_of (Some z))
 
 within_least : (l : List Complex) (n : Option Complex) → lt (key_of (nearest_from n l)) (key_of n) ≡ true → Found n l l
 unfolding key_of
-within_least [] n h = absurd (true≢false (sym h ∙ lt_irrefl (key_of n)))
+within_least [] n h = absurd (true≢false (sym h ∙ not_lt_itself (key_of n)))
 within_least (z ∷ l) n h = go (lt (key_of (Some z)) (key_of n)) refl (within_least l)
   where
     go : (b : Bool) → lt (key_of (Some z)) (key_of n) ≡ b → ((a : Option Complex) → lt (key_of (nearest_from a l)) (key_of a) ≡ true → Found a l l) → Found (lesser key_of n (Some z)) l (z ∷ l)

@@ -3,10 +3,11 @@ use mathlib.Core.Path.{◌≡◌, refl, sym, ap, ◌∙◌}
 use mathlib.Core.Bool.{Bool, true, false, cond}
 use mathlib.Core.List.{List, [], ◌∷◌}
 use lib.Dec.{T}
-use lib.Ieee.{Float, binary64, lt, of_bits, fits}
+use lib.Ieee.{Float, binary64, lt, is_nan, of_bits, fits}
 use lib.Ieee.Bits.{of_bits-fits}
+use Rattle.std.specs.Float.{NotNan}
 use Rattle.laws.specs.Choice.{lesser}
-use Rattle.laws.proofs.Order.{number, lt_not_trans}
+use Rattle.laws.proofs.Order.{lt_not_trans}
 use Rattle.laws.proofs.Choice.{lesser_taken, lesser_left, least_from, least_number, least_spread}
 use Rattle.scalar.specs.Sqrt.{sqrt_of}
 use Rattle.scalar.proofs.Monotone.{itself, sqrt_lesser}
@@ -41,8 +42,8 @@ root_infinity : sqrt_of infinity ≡ infinity
 unfolding sqrt_of of_bits
 root_infinity = refl
 
-infinity_number : T (number infinity)
-unfolding of_bits
+infinity_number : NotNan infinity
+unfolding of_bits is_nan
 infinity_number = tt
 
 largest_less : largest ≡ lesser itself largest infinity
@@ -53,7 +54,7 @@ half_below : lt half_largest largest ≡ true
 unfolding lt of_bits
 half_below = refl
 
-zero_either_way : (d : Float) → T (number d) → or_zero (lesser itself largest d) ≡ or_zero d
+zero_either_way : (d : Float) → NotNan d → or_zero (lesser itself largest d) ≡ or_zero d
 zero_either_way d n = go (lt d largest) refl (lt half_largest d) refl
   where
     go : (a : Bool) → lt d largest ≡ a → (b : Bool) → lt half_largest d ≡ b → or_zero (lesser itself largest d) ≡ or_zero d

@@ -13,6 +13,7 @@ use lib.Ieee.Exact.{HasValue}
 use lib.Ieee.Positive.{positive, above}
 use borrow.Author.Tests.{lt-ltb, le-ltb}
 use Rattle.std.specs.Float.{float_with_sign}
+use Rattle.laws.proofs.Order.{lt_numbers}
 use Rattle.scalar.specs.Scalar.{abs_of}
 use Rattle.scalar.specs.Sqrt.{sqrt_of}
 use Rattle.scalar.proofs.Patterns.{not_above, sqrt_below}
@@ -125,7 +126,4 @@ infinite_above x f h l = sym (ordinary_if x (subst T (sym f) tt) h) ∙ le-ltb (
 
 -- a number above 0 is no NaN
 pub above_number : (x : Float) → lt (of_bits binary64 0) x ≡ true → T (not (is_nan x))
-unfolding lt of_bits is_nan
-above_number nan h = absurd (false≢true h)
-above_number (inf s) h = tt
-above_number (fin s m e) h = tt
+above_number x h = (lt_numbers (of_bits binary64 0) x h).1

@@ -3,17 +3,21 @@
 use mathlib.Core.Path.{◌≡◌, refl, sym, ◌∙◌, subst}
 use mathlib.Core.Logic.{◌⊎◌, inl, inr}
 use mathlib.Core.Bool.{Bool, true, false, true≢false}
-use Prim.Native.Nat.{ℕ, zero, suc, ◌^◌}
-use native.Mathlib.Nat.{zero-lt-suc, mul-le-mul_right, le_of_mul-le-mul_right}
+use Prim.Native.Nat.{ℕ, zero, suc, ◌*◌, ◌^◌}
+use native.Mathlib.Nat.{zero-lt-suc, zero-mul, mul-le-mul_right, le_of_mul-le-mul_right}
 use native.Mathlib.Omega.{arith}
 use lib.Pow.{pow_pos}
 use lib.IntN.{ℤ}
 use lib.Dec.{T, lt→ltb}
-use lib.Ieee.{Float, nan, inf, fin, binary64, fits, lt, le, of_bits}
+use lib.Ieee.{Float, nan, inf, fin, binary64, up, down, fits, lt, le, is_nan, of_bits}
+use lib.Ieee.Fits.{down_pos}
+use lib.Ieee.Bits.{is_true}
 use lib.Ieee.Order.{le_of_values}
 use lib.Ieee.Positive.{positive, positive-finite, values_of_le, above, above_of_le}
+use Rattle.std.specs.Float.{NotNan}
+use Rattle.std.proofs.lemmas.Float.{T_from_true, T_from_false, le_left, le_right, le_trans, le_of_lt, le_of_not-lt, lt_of_le_of_lt}
 use Rattle.laws.specs.Choice.{lesser, greater}
-use Rattle.laws.proofs.Order.{number, cross→le, le_left, le_right, greatest, le_trans, le_of_lt, le_of_not_lt, not_lt_of_le, le_lt_trans, lt_numbers, le_antisym}
+use Rattle.laws.proofs.Order.{greatest, not_lt_of_le, lt_numbers, le_antisym}
 use Rattle.laws.proofs.Choice.{greater_kept, lesser_kept}
 use Rattle.scalar.specs.Scalar.{f0}
 use Rattle.scalar.specs.Sqrt.{in_units, sqrt_of}
@@ -23,9 +27,9 @@ use Rattle.scalar.proofs.Cases.{zero_lt, minus_below, special_below}
 -- ---- zero
 
 zero_least : (s : Bool) (e : ℤ) → T (le (fin s 0 e) f0)
-unfolding of_bits
-zero_least false e = cross→le (fin false 0 e) f0 tt tt (omega arith)
-zero_least true e = cross→le (fin true 0 e) f0 tt tt (omega arith)
+unfolding of_bits le
+zero_least false e = rw (zero-mul (up e), zero-mul (down e)) tt
+zero_least true e = rw (zero-mul (up e), zero-mul (down e)) tt
 
 positive_above : (x : Float) → T (positive x) → T (above x)
 positive_above nan p = absurd p
@@ -34,12 +38,12 @@ positive_above (fin true m e) p = absurd p
 positive_above (fin false m e) p = p
 
 above_zero : (x : Float) → T (above x) → T (le f0 x)
-unfolding of_bits
+unfolding of_bits is_nan
 above_zero nan a = absurd a
 above_zero (inf true) a = absurd a
 above_zero (inf false) a = greatest f0 tt
 above_zero (fin true m e) a = absurd a
-above_zero (fin false m e) a = cross→le f0 (fin false m e) tt tt (omega arith)
+above_zero (fin false m e) a = le_of_values f0 (fin false m e) 0 1 (m * up e) (down e) (zero-lt-suc 0) (down_pos e) (refl, refl) (refl, refl) (omega arith)
 
 below_zero : (m : ℕ) (e : ℤ) → T (le f0 (fin true (suc m) e)) → ⊥
 below_zero m e h = grind (arith, minus_below, not_lt_of_le, f0)
@@ -103,18 +107,18 @@ sqrt_mono (fin false (suc m) e) y h k p l = go y k (above_of_le x y px l) l
     go (fin false n d) k a l = mono_positive x (fin false n d) h k px a l
 
 -- only what is not below zero has a root that is a number
-sqrt_number : (x : Float) → T (number (sqrt_of x)) → T (number x) × (lt x f0 ≡ false)
-unfolding of_bits
+sqrt_number : (x : Float) → NotNan (sqrt_of x) → NotNan x × (lt x f0 ≡ false)
+unfolding of_bits is_nan
 sqrt_number x n = (is_number x n, go (lt x f0) refl)
   where
-    is_number : (x : Float) → T (number (sqrt_of x)) → T (number x)
+    is_number : (x : Float) → NotNan (sqrt_of x) → NotNan x
     is_number nan n = unfold sqrt_of in n
     is_number (inf s) n = tt
     is_number (fin s m e) n = tt
 
     go : (b : Bool) → lt x f0 ≡ b → lt x f0 ≡ false
     go false e = e
-    go true e = absurd (subst (λ (v : Float). T (number v)) (special_below x e) n)
+    go true e = absurd (subst (λ (v : Float). NotNan v) (special_below x e) n)
 
 -- the roots compare as x and y do, or they are the same
 pub sqrt_order : (x y : Float) → T (fits binary64 x) → T (fits binary64 y) → lt x f0 ≡ false → (sqrt_of x ≡ sqrt_of y) ⊎ (lt (sqrt_of x) (sqrt_of y) ≡ lt x y)
@@ -125,15 +129,15 @@ sqrt_order x y h k z = go (lt x y) refl (lt (sqrt_of x) (sqrt_of y)) refl
     go false e false g = inr (g ∙ sym e)
     go true e false g =
         let n = lt_numbers x y e in
-        let p : T (le f0 x) = le_of_not_lt x f0 n.0 (unfold of_bits in tt) z in
-        let m = sqrt_mono x y h k p (le_of_lt x y e) in
-        let back = le_of_not_lt (sqrt_of x) (sqrt_of y) (le_left (sqrt_of x) (sqrt_of y) m) (le_right (sqrt_of x) (sqrt_of y) m) g in
-        inl (sym (le_antisym binary64 (sqrt_of y) (sqrt_of x) (sqrt_fits y k) (sqrt_fits x h) (sqrt_above y k (zero_lt y (le_lt_trans f0 x y n.1 p e))) back m))
+        let p : T (le f0 x) = le_of_not-lt x f0 n.0 (unfold of_bits is_nan in tt) (T_from_false _ z) in
+        let m = sqrt_mono x y h k p (le_of_lt x y (T_from_true _ e)) in
+        let back = le_of_not-lt (sqrt_of x) (sqrt_of y) (le_left (sqrt_of x) (sqrt_of y) m) (le_right (sqrt_of x) (sqrt_of y) m) (T_from_false _ g) in
+        inl (sym (le_antisym binary64 (sqrt_of y) (sqrt_of x) (sqrt_fits y k) (sqrt_fits x h) (sqrt_above y k (zero_lt y (is_true _ (lt_of_le_of_lt f0 x y p (T_from_true _ e))))) back m))
     go false e true g =
         let r = lt_numbers (sqrt_of x) (sqrt_of y) g in
         let nx = sqrt_number x r.0 in
         let ny = sqrt_number y r.1 in
-        let m = sqrt_mono y x k h (le_of_not_lt y f0 ny.0 (unfold of_bits in tt) ny.1) (le_of_not_lt x y nx.0 ny.0 e) in
+        let m = sqrt_mono y x k h (le_of_not-lt y f0 ny.0 (unfold of_bits is_nan in tt) (T_from_false _ ny.1)) (le_of_not-lt x y nx.0 ny.0 (T_from_false _ e)) in
         absurd (true≢false (sym g ∙ not_lt_of_le (sqrt_of y) (sqrt_of x) m))
 
 -- ---- the greater and the lesser of two, as the Rust's comparisons keep them: a NaN, or a root that is one, is never taken in place of a number

@@ -1,7 +1,7 @@
 -- The root of a finite value above zero is the one value of the format that is nearest to it. Assumes nothing.
 use mathlib.Core.Path.{◌≡◌, refl, sym, ap, ◌∙◌, subst}
 use mathlib.Core.Logic.{◌⊎◌, inl, inr}
-use mathlib.Core.Bool.{Bool, true, false, cond}
+use mathlib.Core.Bool.{Bool, true, false}
 use Prim.Native.Nat.{ℕ, zero, suc, ◌+◌, ◌-◌, ◌*◌, ◌/◌, ◌%◌, ◌^◌, ◌≤◌, ◌<◌}
 use native.Mathlib.Nat.{le_of_lt, sub-add_cancel, le_refl, le_antisymm, zero-lt-suc, le_trans, le_of_eq, lt_of_lt_of_le, lt_of_le_of_lt, lt_of_not-le, not-le_of_lt, mul-le-mul, mul-le-mul_right, mul-lt-mul_of_pos_right, mul_assoc, mul-mul-mul_comm, mul-pos, mul-div_cancel, eq-or-lt_of_le, le_of_suc-le-suc}
 use native.Mathlib.Omega.{arith}
@@ -30,10 +30,6 @@ units_of (fin t m e) s a v = ap (λ (x : ℕ). x / down e) v.1 ∙ mul-div_cance
 -- y has the sign s and is q * 2 ^ j units, q of at most 53 digits
 abbrev Grid : Float → Type 0
 Grid y = (s : Bool) × (q : ℕ) × (j : ℕ) × HasValue y s (q * 2 ^ j) (2 ^ 1074) × (q < 2 ^ 53) × (j < 2046)
-
-top_not_finite : (b s : Bool) → T (finite (cond b (inf s) nan)) → ⊥
-top_not_finite true s t = t
-top_not_finite false s t = t
 
 fields_finite : (s : Bool) (t : ℕ) → T (finite (of_fields binary64 s 2047 t)) → ⊥
 unfolding of_fields

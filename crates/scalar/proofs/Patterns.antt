@@ -149,11 +149,6 @@ sqrt_below b h l =
     ∙ sqrt_below_fields (b % 2 ^ 63 / 2 ^ 52) (b % 2 ^ 52) (omega arith) (omega arith) (omega arith)
 
 -- ---- a root is no NaN
-odd_number : (d : ℕ) (s : Bool) (q k l : ℕ) → is_nan (odd d s q k l) ≡ false
-unfolding odd is_nan
-odd_number d s zero k l = refl
-odd_number d s (suc q) k l = refl
-
 units_number : (q k : ℕ) → is_nan (units binary64 false q k) ≡ false
 unfolding units is_nan
 units_number q k = grind arith

@@ -1,7 +1,7 @@
 -- What conditions that are passed mean. Assumes nothing.
 use Prim.Native.Nat.{ℕ, ◌≤◌}
 use mathlib.Core.Path.{◌≡◌, refl, sym, ◌∙◌}
-use mathlib.Core.Bool.{Bool, true, false, ◌&&◌}
+use mathlib.Core.Bool.{Bool, true, false}
 use mathlib.Core.List.{List}
 use native.Mathlib.Omega.{arith}
 use borrow.Author.Tests.{eqb-true, ltb-false}
@@ -9,16 +9,12 @@ use lib.Dec.{eqb, ltb}
 use lib.ListN.{length}
 use lib.Ieee.{Float}
 use Rattle.std.specs.Prelude.{Result, Ok, Err}
+use Rattle.std.proofs.lemmas.Bool.{and_parts}
 use Rattle.laws.specs.Outcome.{when}
 use Rattle.laws.proofs.Outcome.{when_passed}
 use Rattle.sweep.specs.Refusal.{refusal_of, scan_refusal, lists_refusal, SameLength}
 use Rattle.sweep.specs.declared.FreqError.{FreqError}
 use Rattle.sweep.specs.declared.FreqError.TheVariants.{LengthsDiffer, TooMany}
-
-pub both_true : (a b : Bool) → (a && b) ≡ true → (a ≡ true) × (b ≡ true)
-both_true true true h = (refl, refl)
-both_true true false h = (refl, h)
-both_true false b h = (h, cc)
 
 -- lists that a scan takes
 pub scan_taken : (same : Bool) (n : ℕ) → scan_refusal same n ≡ 0 → (same ≡ true) × (n ≤ 4096)
@@ -29,7 +25,7 @@ scan_taken true n h = (refl, ltb-false 4096 n (when_passed (ltb 4096 n) 15 (omeg
 pub same_length : (xs ys zs : List Float) → lists_refusal xs ys zs ≡ 0 → SameLength xs ys zs
 unfolding lists_refusal
 same_length xs ys zs h =
-    let b = both_true (eqb (length xs) (length ys)) (eqb (length ys) (length zs)) (scan_taken _ _ h).0 in
+    let b = and_parts (eqb (length xs) (length ys)) (eqb (length ys) (length zs)) (scan_taken _ _ h).0 in
     let first : length xs ≡ length ys = eqb-true (length xs) (length ys) b.0 in
     let second : length ys ≡ length zs = eqb-true (length ys) (length zs) b.1 in
     record { second = sym first; third = sym (first ∙ second) }

@@ -2,10 +2,8 @@
 use Prim.Native.Nat.{ℕ, ◌<◌}
 use mathlib.Core.Path.{◌≡◌, refl, sym, ap, ◌∙◌}
 use mathlib.Core.Bool.{cond}
-use native.Mathlib.Omega.{arith}
-use Rattle.std.specs.Prelude.{Result, Ok, Err}
 use lib.Dec.{T, eqb, ltb, ltb→lt}
-use Rattle.sweep.specs.Refusal.{number_of, refusal_of}
+use Rattle.sweep.specs.Refusal.{number_of}
 use Rattle.sweep.specs.declared.FreqError.{FreqError}
 use Rattle.sweep.specs.declared.FreqError.TheVariants.{InsufficientPoints, InvalidFrequencyRange, InvalidParameter, LengthsDiffer, CubicLeftOut, TooFewPairs, NoRoom, TooMany, WrongOrder, WrongIndex, WrongByteCount}
 
@@ -52,15 +50,3 @@ number_above e = ltb→lt 0 (number_of e) (numbered e).above
 
 pub number_below : (e : FreqError) → number_of e < 100
 number_below e = ltb→lt (number_of e) 100 (numbered e).below
-
--- conditions that are passed, or refused, by their number
-pub check_known : (k l : Result (Unit {0}) FreqError) → refusal_of k ≡ refusal_of l → k ≡ l
-check_known (Ok x) (Ok y) h = refl
-check_known (Ok x) (Err f) h = let p = number_above f in absurd (omega arith)
-check_known (Err e) (Ok y) h = let p = number_above e in absurd (omega arith)
-check_known (Err e) (Err f) h = ap Err (number_known e f h)
-
--- ---- what the answer of a call comes to, whose conditions gave n
-module _ {A : Type 0} {k : Result A FreqError} {n : ℕ} (given : refusal_of k ≡ n) where
-  pub let_through : {x : A} → k ≡ Ok x → n ≡ 0
-  let_through h = sym given ∙ ap refusal_of h

@@ -19,25 +19,6 @@ unfoldable pub first_where : (ℕ → Bool) → ℕ → ℕ → ℕ
 first_where test zero i = i
 first_where test (suc n) i = cond (test i) i (first_where test n (suc i))
 
--- A loop that looks for it: `first_where test (d - i) i ≡ w` says that what is left to look through gives the whole search's outcome w.
-module _ (test : ℕ → Bool) (d : ℕ) where
-  pub search_begin : first_where test (d - 0) 0 ≡ first_where test d 0
-  search_begin = let e : d - 0 ≡ d = omega arith in rw e
-
-  -- a place that does not pass
-  pub search_next : {i w : ℕ} → first_where test (d - i) i ≡ w → i < d → test i ≡ false → first_where test (d - (i + 1)) (i + 1) ≡ w
-  unfolding first_where
-  search_next {i} inv h f = let e : d - i ≡ suc (d - (i + 1)) = omega arith in rw add-one (rw (e, f, add-one) at inv)
-
-  -- the first that passes
-  pub search_hit : {i w : ℕ} → first_where test (d - i) i ≡ w → i < d → test i ≡ true → i ≡ w
-  unfolding first_where
-  search_hit {i} inv h t = let e : d - i ≡ suc (d - (i + 1)) = omega arith in rw (e, t) at inv
-
-  pub search_end_lem : {i w : ℕ} → first_where test (d - i) i ≡ w → d ≤ i → i ≡ w
-  unfolding first_where
-  search_end_lem {i} inv h = let e : d - i ≡ zero = omega arith in rw e at inv
-
 -- a test on two numbers, and on the next ones
 both_more : (a b : ℕ) → ltb a b ≡ ltb (a + 1) (suc b)
 both_more a b = go (ltb a b) refl

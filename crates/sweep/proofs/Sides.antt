@@ -12,6 +12,7 @@ use lib.Ieee.{Float, nan, inf, fin, binary64, up, down, round, mul, le, lt, ne, 
 use lib.Ieee.Compare.{differs_from_itself}
 use lib.Ieee.Fits.{up_pos, down_pos}
 use lib.Ieee.Scale.{round_same}
+use Rattle.std.proofs.lemmas.Bool.{and_right}
 use Rattle.laws.proofs.Order.{not_le_of_lt}
 use Rattle.laws.proofs.Signs.{signed, round_signed}
 use Rattle.scalar.specs.Scalar.{f0}
@@ -50,13 +51,9 @@ below_not_above (inf false) h = absurd h
 below_not_above (fin true m e) h = not_le_of_lt (fin true m e) f0 (below m e h)
 below_not_above (fin false m e) h = absurd h
 
-and_false : (p : Bool) → (p && false) ≡ false
-and_false true = refl
-and_false false = refl
-
 pub one_side : (s : Bool) (a b : Float) → T (beside s a) → T (beside s b) → false ≡ crosses_zero a b
-one_side true a b h k = rw (below_not_above a h, below_not_above b k, and_false (le a f0))
-one_side false a b h k = rw (above_not_below a h, above_not_below b k, and_false (le f0 a))
+one_side true a b h k = rw (below_not_above a h, below_not_above b k, and_right (le a f0) false refl)
+one_side false a b h k = rw (above_not_below a h, above_not_below b k, and_right (le f0 a) false refl)
 
 -- ---- a product above 0 has both factors on one side
 
@@ -146,4 +143,4 @@ unfolding le of_bits
 nan_not_below = refl
 
 pub nan_crosses_none : (a b : Float) → ne b b ≡ true → false ≡ crosses_zero a b
-nan_crosses_none a b h = rw (differs_from_itself b (subst T (sym h) tt), nan_not_above, nan_not_below, and_false (le f0 a), and_false (le a f0))
+nan_crosses_none a b h = rw (differs_from_itself b (subst T (sym h) tt), nan_not_above, nan_not_below, and_right (le f0 a) false refl, and_right (le a f0) false refl)
