@@ -19,6 +19,11 @@ unfoldable pub first_where : (ℕ → Bool) → ℕ → ℕ → ℕ
 first_where test zero i = i
 first_where test (suc n) i = cond (test i) i (first_where test n (suc i))
 
+-- the end of a loop that looks for it (a law that docs/PORT.md names, and no proof here needs)
+pub search_end_lem : (test : ℕ → Bool) (d : ℕ) {i w : ℕ} → first_where test (d - i) i ≡ w → d ≤ i → i ≡ w
+unfolding first_where
+search_end_lem test d {i} inv h = let e : d - i ≡ zero = omega arith in rw e at inv
+
 -- a test on two numbers, and on the next ones
 both_more : (a b : ℕ) → ltb a b ≡ ltb (a + 1) (suc b)
 both_more a b = go (ltb a b) refl
