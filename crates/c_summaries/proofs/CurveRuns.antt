@@ -61,7 +61,7 @@ plain = plain_kind kind plain_of from_plain plain_back
 
 pub plain_of_book : {c : Calls Part} {p : CurvePlain} → Reaches c p → p ≡ plain_of (summary_of (book_of c) (mark c))
 unfolding book_of part_refusal part_points fed_curve
-plain_of_book = whole plain (λ p h. h.learnt) (λ l m x q h. h.after ∙ ap (λ (f : CurvePlainFed). f.summary) h.call.learnt) (λ p q r h. h.learnt)
+plain_of_book r = whole plain (λ p h. h.learnt) (λ l m x q h. h.after ∙ ap (λ (f : CurvePlainFed). f.summary) h.call.learnt) (λ p q r h. h.learnt) r
 
 pub demand_3 : (c : Calls Part) (p : CurvePlain) → Reaches c p → Host c p
 unfolding part_refusal part_points fed_curve

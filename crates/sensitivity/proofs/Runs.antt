@@ -80,7 +80,7 @@ pub record Claim (c : Calls Part) (s : SensitivitySummary) : Type 0 where
 
 pub summary_of_book : {c : Calls Part} {s : SensitivitySummary} → Reaches c s → s ≡ summary_of (book_of c) (mark c)
 unfolding book_of part_refusal part_readings
-summary_of_book = whole kind (λ s h. h.learnt) (λ l m p t h. h.after ∙ h.call.learnt.1) (λ s t u h. h.learnt)
+summary_of_book r = whole kind (λ s h. h.learnt) (λ l m p t h. h.after ∙ h.call.learnt.1) (λ s t u h. h.learnt) r
 
 pub demand_3 : (c : Calls Part) (s : SensitivitySummary) → Reaches c s → Claim c s
 unfolding crossover_answer bandwidth_answer part_refusal part_readings
