@@ -8,9 +8,9 @@ use Rattle.sweep.specs.Answer.{crossing_outcome}
 use Rattle.sweep.specs.Runs.{Cuts, list_of, joined_up}
 use Rattle.std.specs.Prelude.{Some, None}
 use Rattle.sweep.proofs.Behind.{ends-append, crossing-append}
-use Rattle.sweep.proofs.Runs.{join_assoc, neutral_before, neutral_behind, fed_uncut, joined_uncut}
+use Rattle.sweep.proofs.Runs.{Kind, join_assoc, neutral_before, neutral_behind, fed_uncut, joined_uncut}
 use Rattle.bode.specs.Bode.{gain_pair, phase_pair, gain_crossover, phase_crossover, Crossover, Gain, Phase, crossover_of}
-use Rattle.bode.specs.Summary.{zero_reading, summary_of, behind, fed_by, join_of, gain_answer, phase_answer, answer_of}
+use Rattle.bode.specs.Summary.{zero_reading, summary_of, behind, fed_by, join_of, gain_answer, phase_answer, answer_of, Part, part_refusal, part_readings}
 use Rattle.bode.specs.declared.Reading.{Reading}
 use Rattle.bode.specs.declared.summary.BodeSummary.{BodeSummary}
 
@@ -31,6 +31,10 @@ fed_append l m k = behind_append l m k false m
 pub join_append : (l : List Reading) (m : Bool) (k : List Reading) (n : Bool) → join_of (summary_of l m) (summary_of k n) ≡ summary_of (l ++ k) true
 unfolding join_of
 join_append l m k n = behind_append l m k n true
+
+-- so the Bode summary is a kind of summary
+abbrev pub kind : Kind Part Reading BodeSummary
+kind = record { at = summary_of; fed_by = fed_by; join_of = join_of; number = part_refusal; part = part_readings; fed-law = fed_append; join-law = join_append }
 
 -- ---- the answers of a list's summary are the scans of the list, under either mark
 
@@ -72,19 +76,19 @@ module _ (s t : BodeSummary) where
 
 pub join_associates : (l : List Reading) (m : Bool) (k : List Reading) (n : Bool) (j : List Reading) (o : Bool)
     → join_of (join_of (summary_of l m) (summary_of k n)) (summary_of j o) ≡ join_of (summary_of l m) (join_of (summary_of k n) (summary_of j o))
-join_associates = join_assoc summary_of fed_by join_of fed_append join_append
+join_associates = join_assoc kind
 
 module _ (which : Crossover) where
   pub crossover_neutral : (l : List Reading) (m n : Bool)
       → (answer_of which (join_of (summary_of [] n) (summary_of l m)) ≡ answer_of which (summary_of l m)) × (answer_of which (join_of (summary_of l m) (summary_of [] n)) ≡ answer_of which (summary_of l m))
   crossover_neutral l m n = (
-    neutral_before summary_of fed_by join_of fed_append join_append (answer_of which) (blind which) n l m,
-    neutral_behind summary_of fed_by join_of fed_append join_append (answer_of which) (blind which) l m n,
+    neutral_before kind (answer_of which) (blind which) n l m,
+    neutral_behind kind (answer_of which) (blind which) l m n,
   )
 
   -- a sweep that is cut anywhere and fed, or cut into any parts that are joined in any bracketing, answers what it answers uncut
   pub crossover_fed : (l k : List Reading) (m : Bool) → answer_of which (fed_by (summary_of l m) k) ≡ answer_of which (summary_of (l ++ k) false)
-  crossover_fed = fed_uncut summary_of fed_by join_of fed_append join_append (answer_of which) (blind which)
+  crossover_fed = fed_uncut kind (answer_of which) (blind which)
 
   pub crossover_joined : (c : Cuts Reading) → answer_of which (joined_up summary_of join_of c) ≡ answer_of which (summary_of (list_of c) false)
-  crossover_joined = joined_uncut summary_of fed_by join_of fed_append join_append (answer_of which) (blind which)
+  crossover_joined = joined_uncut kind (answer_of which) (blind which)

@@ -11,18 +11,18 @@ use mathlib.Core.Bool.{false}
 use mathlib.Core.List.{[], ◌∷◌}
 use Rattle.laws.specs.Outcome.{none}
 use Rattle.sweep.specs.Answer.{crossing_outcome}
-use Rattle.sweep.specs.Runs.{Calls, mark, Reached, left_after, left_by, run_of, Returned, FedLists}
+use Rattle.sweep.specs.Runs.{Calls, mark, Reached, left_by, Returned, FedLists}
 use Rattle.sweep.specs.Scan.{Neighbours}
 use Rattle.std.specs.Prelude.{Option, Float}
 use Rattle.sweep.specs.Refusal.{refusal_of}
 use Rattle.sweep.proofs.Conditions.{lists_checked}
-use Rattle.sweep.proofs.Runs.{whole, left_stays, result_says, fed_lists, ran_reached}
+use Rattle.sweep.proofs.Runs.{whole, run_by, ran_reached, left_stays, checked_feed}
 use Rattle.bode.specs.Bode.{gain_crosses, phase_crosses, gain_crossover, phase_crossover, Gain, Phase}
-use Rattle.bode.specs.Summary.{summary_of, fed_by, join_of, gain_answer, phase_answer, Part, part_refusal, part_readings, book_of}
+use Rattle.bode.specs.Summary.{summary_of, gain_answer, phase_answer, Part, part_refusal, part_readings, book_of}
 use Rattle.bode.specs.declared.Reading.{Reading}
 use Rattle.bode.specs.declared.summary.BodeSummary.{BodeSummary}
 use Rattle.bode.proofs.Laws.{no_crossover_in, none_of_crossover}
-use Rattle.bode.proofs.Joins.{fed_append, join_append, answer_is}
+use Rattle.bode.proofs.Joins.{kind, answer_is}
 use Rattle.bode.proofs.summary.BodeSummary.empty.Reads as empty_reads
 use Rattle.bode.proofs.summary.BodeSummary.feed.Reads as feed_reads
 use Rattle.bode.proofs.summary.BodeSummary.join.Reads as join_reads
@@ -76,9 +76,7 @@ pub record Claim (c : Calls Part) (s : BodeSummary) : Type 0 where
 
 pub summary_of_book : {c : Calls Part} {s : BodeSummary} → Reaches c s → s ≡ summary_of (book_of c) (mark c)
 unfolding book_of part_refusal part_readings
-summary_of_book r =
-    whole summary_of fed_by join_of fed_append join_append part_refusal part_readings
-    (λ s h. h.learnt) (λ l m p t h. h.after ∙ h.call.learnt.1) (λ s t u h. h.learnt) r
+summary_of_book r = whole kind (λ s h. h.learnt) (λ l m p t h. h.after ∙ h.call.learnt.1) (λ s t u h. h.learnt) r
 
 pub demand_3 : (c : Calls Part) (s : BodeSummary) → Reaches c s → Claim c s
 unfolding gain_answer phase_answer part_refusal part_readings
@@ -93,7 +91,7 @@ demand_3 c s h =
       no_phase = λ r g e. no_crossover_in Phase (book_of c) (sym (phase_is r g) ∙ e);
       phase_none = λ r g e. phase_is r g ∙ none_of_crossover Phase (book_of c) e;
       feed_number = λ f. f.call.learnt.0;
-      feed_refused = stays;
+      feed_refused = λ f n. left_stays _ (f.after ∙ f.call.learnt.1) n;
     }
   where
     gain_is : (r : Option Float) → GainOf s r → crossing_outcome r ≡ crossing_outcome (gain_crossover (book_of c))
@@ -102,31 +100,18 @@ demand_3 c s h =
     phase_is : (r : Option Float) → PhaseOf s r → crossing_outcome r ≡ crossing_outcome (phase_crossover (book_of c))
     phase_is r g = rw (summary_of_book h, answer_is Phase) at g.learnt
 
-    stays : {p : Part} {t : BodeSummary} → FedBy s p t → (part_refusal (book_of c) (mark c) p ≡ 0 → ⊥) → t ≡ s
-    stays {p} f n = f.after ∙ f.call.learnt.1 ∙ left_stays (part_refusal (book_of c) (mark c) p) s (fed_by s (part_readings p)) n
-
 -- ---- the claim is of something: every list of calls leaves a summary
-
--- the summary that the definitions leave after a feed
-next : BodeSummary → Part → BodeSummary
-next s p = left_after (part_refusal [] false p) s (fed_by s (part_readings p))
-
-feed_possible : (s : BodeSummary) (p : Part) → FedBy s p (next s p)
-unfolding next part_refusal part_readings
-feed_possible s p =
-    let k = lists_checked p.omega p.db p.phase in
-    let r = result_says k s (fed_by s (part_readings p)) in
-    fed_lists ([], ([], ([], tt))) r.0 (λ a. r.1) (sym r.1.1)
 
 -- the summary that the definitions leave after the calls
 pub run : Calls Part → BodeSummary
-run c = run_of (summary_of [] false) next join_of c
+run = run_by kind
 
 pub run_reached : (c : Calls Part) → Reaches c (run c)
-unfolding run
-run_reached c =
-    ran_reached (summary_of [] false) next join_of
-    (record { lifetimes = tt; exits = tt; learnt = refl }) feed_possible (λ s t. record { lifetimes = tt; exits = (s, (t, tt)); learnt = refl }) c
+unfolding run part_refusal part_readings
+run_reached =
+    ran_reached kind (record { lifetimes = tt; exits = tt; learnt = refl })
+    (λ s p. checked_feed ([], ([], ([], tt))) _ (lists_checked p.omega p.db p.phase) (λ a r h. h))
+    (λ s t. record { lifetimes = tt; exits = (s, (t, tt)); learnt = refl })
 
 -- ---- two lists of calls with the same book answer the same, however the sweep was cut, fed and joined
 

@@ -6,18 +6,18 @@ use mathlib.Core.Bool.{false}
 use mathlib.Core.List.{[], ◌∷◌}
 use lib.Ieee.{Float}
 use Rattle.sweep.specs.Answer.{crossing_outcome}
-use Rattle.sweep.specs.Runs.{Calls, mark, Reached, run_of, Returned, FedLists, Answered}
+use Rattle.sweep.specs.Runs.{Calls, mark, Reached, Returned, FedLists, Answered}
 use Rattle.sweep.specs.Scan.{Neighbours}
 use Rattle.sweep.proofs.Answers.{crossing_there, crossing_none}
-use Rattle.sweep.proofs.Runs.{left_stays, fed_lists, answered_there, ran_reached}
-use Rattle.sweep.proofs.Plain.{whole_plain}
+use Rattle.sweep.proofs.Runs.{Kind, whole, run_by, ran_reached, left_stays, fed_lists, answered_there}
+use Rattle.sweep.proofs.Plain.{plain_kind}
 use Rattle.bode.specs.Bode.{gain_crosses, phase_crosses, gain_crossover, phase_crossover, Gain, Phase}
-use Rattle.bode.specs.Summary.{summary_of, fed_by, join_of, gain_answer, phase_answer, Part, part_refusal, part_readings, book_of}
+use Rattle.bode.specs.Summary.{summary_of, fed_by, gain_answer, phase_answer, Part, part_refusal, part_readings, book_of}
 use Rattle.bode.specs.Plain.{plain_of, from_plain}
 use Rattle.bode.specs.declared.Reading.{Reading}
 use Rattle.bode.specs.declared.summary.BodePlain.{BodePlain}
 use Rattle.bode.proofs.Laws.{no_crossover_in, none_of_crossover}
-use Rattle.bode.proofs.Joins.{fed_append, join_append, answer_is}
+use Rattle.bode.proofs.Joins.{kind, answer_is}
 use Rattle.bode.proofs.Plain.{plain_back}
 use Rattle.laws.specs.Outcome.{Outcome, Answers}
 use Rattle.c_summaries.specs.Fed.{fed_bode}
@@ -72,11 +72,13 @@ pub record Host (c : Calls Part) (p : BodePlain) : Type 0 where
 
 -- ---- the proof: whatever the calls leave are the plain numbers of the book's summary
 
+-- the plain numbers are a kind of summary
+abbrev plain : Kind Part Reading BodePlain
+plain = plain_kind kind plain_of from_plain plain_back
+
 pub plain_of_book : {c : Calls Part} {p : BodePlain} → Reaches c p → p ≡ plain_of (summary_of (book_of c) (mark c))
 unfolding book_of part_refusal part_readings fed_bode
-plain_of_book r =
-    whole_plain summary_of fed_by join_of fed_append join_append plain_of from_plain plain_back part_refusal part_readings
-    (λ p h. h.learnt) (λ l m x q h. h.after ∙ ap (λ (f : BodePlainFed). f.summary) h.call.learnt) (λ p q r h. h.learnt) r
+plain_of_book r = whole plain (λ p h. h.learnt) (λ l m x q h. h.after ∙ ap (λ (f : BodePlainFed). f.summary) h.call.learnt) (λ p q r h. h.learnt) r
 
 pub demand_3 : (c : Calls Part) (p : BodePlain) → Reaches c p → Host c p
 unfolding gain_answer phase_answer part_refusal part_readings fed_bode
@@ -91,7 +93,7 @@ demand_3 c p h =
       no_phase = λ g e. no_crossover_in Phase (book_of c) (crossing_none (phase_crossover (book_of c)) (sym (phase_is g).number ∙ e));
       phase_none = λ g e. (phase_is g).number ∙ ap (λ (o : Outcome). o.number) (none_of_crossover Phase (book_of c) e);
       feed_number = λ f. ap (λ (r : BodePlainFed). r.number) f.call.learnt;
-      feed_refused = stays;
+      feed_refused = λ f n. left_stays _ (f.after ∙ ap (λ (r : BodePlainFed). r.summary) f.call.learnt) n;
     }
   where
     gain_is : {r : ℕ} {before after : Float} → GainOf p r before after → Answers (crossing_outcome (gain_crossover (book_of c))) r (before ∷ []) (after ∷ [])
@@ -100,27 +102,15 @@ demand_3 c p h =
     phase_is : {r : ℕ} {before after : Float} → PhaseOf p r before after → Answers (crossing_outcome (phase_crossover (book_of c))) r (before ∷ []) (after ∷ [])
     phase_is g = rw (plain_of_book h, plain_back, answer_is Phase) at g.learnt
 
-    stays : {x : Part} {q : BodePlain} → FedBy p x q → (part_refusal (book_of c) (mark c) x ≡ 0 → ⊥) → q ≡ p
-    stays {x} f n =
-        f.after ∙ ap (λ (r : BodePlainFed). r.summary) f.call.learnt
-        ∙ left_stays (part_refusal (book_of c) (mark c) x) p (plain_of (fed_by (from_plain p) (part_readings x))) n
-
 -- ---- the claim is of something: every list of calls leaves plain numbers
 
--- what the definitions give a host after a feed, after a join and after the calls
-feeds : BodePlain → Part → BodePlainFed
-feeds p x = fed_bode (part_refusal [] false x) (fed_by (from_plain p) (part_readings x)) p
-
-joins : BodePlain → BodePlain → BodePlain
-joins p q = plain_of (join_of (from_plain p) (from_plain q))
-
+-- what the definitions give a host after the calls
 pub run : Calls Part → BodePlain
-run c = run_of (plain_of (summary_of [] false)) (λ p x. (feeds p x).summary) joins c
+run = run_by plain
 
 pub run_reached : (c : Calls Part) → Reaches c (run c)
-unfolding run feeds joins part_refusal part_readings
-run_reached c =
-    ran_reached (plain_of (summary_of [] false)) (λ p x. (feeds p x).summary) joins
-    (record { lifetimes = tt; exits = tt; learnt = refl })
-    (λ p x. fed_lists ([], ([], ([], tt))) (feeds p x) (λ a. refl) refl)
-    (λ p q. record { lifetimes = tt; exits = (p, (q, tt)); learnt = refl }) c
+unfolding run part_refusal part_readings fed_bode
+run_reached =
+    ran_reached plain (record { lifetimes = tt; exits = tt; learnt = refl })
+    (λ p x. fed_lists ([], ([], ([], tt))) (fed_bode (part_refusal [] false x) (fed_by (from_plain p) (part_readings x)) p) (λ a. refl) refl)
+    (λ p q. record { lifetimes = tt; exits = (p, (q, tt)); learnt = refl })

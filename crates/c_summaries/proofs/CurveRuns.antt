@@ -4,14 +4,15 @@ use mathlib.Core.Path.{◌≡◌, refl, ap, ◌∙◌}
 use mathlib.Core.Bool.{false}
 use mathlib.Core.List.{[], ◌∷◌}
 use lib.Ieee.{Float}
-use Rattle.sweep.specs.Runs.{Calls, mark, Reached, run_of, Returned, FedLists}
-use Rattle.sweep.proofs.Runs.{left_stays, fed_lists, ran_reached}
-use Rattle.sweep.proofs.Plain.{whole_plain}
+use Rattle.sweep.specs.Runs.{Calls, mark, Reached, Returned, FedLists}
+use Rattle.sweep.proofs.Runs.{Kind, whole, run_by, ran_reached, left_stays, fed_lists}
+use Rattle.sweep.proofs.Plain.{plain_kind}
+use Rattle.complex.specs.declared.Complex.{Complex}
 use Rattle.nyquist.specs.Curve.{distance_of}
-use Rattle.nyquist.specs.Summary.{summary_of, fed_by, join_of, approach_answer, Part, part_refusal, part_points, book_of}
+use Rattle.nyquist.specs.Summary.{summary_of, fed_by, approach_answer, Part, part_refusal, part_points, book_of}
 use Rattle.nyquist.specs.Plain.{plain_of, from_plain}
 use Rattle.nyquist.specs.declared.summary.CurvePlain.{CurvePlain}
-use Rattle.nyquist.proofs.Joins.{fed_append, join_append, approach_answer_lem}
+use Rattle.nyquist.proofs.Joins.{kind, approach_answer_lem}
 use Rattle.nyquist.proofs.Plain.{plain_back}
 use Rattle.c_summaries.specs.Fed.{fed_curve}
 use Rattle.c_summaries.specs.declared.curve_summary.CurvePlainFed.{CurvePlainFed}
@@ -54,11 +55,13 @@ pub record Host (c : Calls Part) (p : CurvePlain) : Type 0 where
 
 -- ---- the proof: whatever the calls leave are the plain numbers of the book's summary
 
+-- the plain numbers are a kind of summary
+abbrev plain : Kind Part Complex CurvePlain
+plain = plain_kind kind plain_of from_plain plain_back
+
 pub plain_of_book : {c : Calls Part} {p : CurvePlain} → Reaches c p → p ≡ plain_of (summary_of (book_of c) (mark c))
 unfolding book_of part_refusal part_points fed_curve
-plain_of_book r =
-    whole_plain summary_of fed_by join_of fed_append join_append plain_of from_plain plain_back part_refusal part_points
-    (λ p h. h.learnt) (λ l m x q h. h.after ∙ ap (λ (f : CurvePlainFed). f.summary) h.call.learnt) (λ p q r h. h.learnt) r
+plain_of_book r = whole plain (λ p h. h.learnt) (λ l m x q h. h.after ∙ ap (λ (f : CurvePlainFed). f.summary) h.call.learnt) (λ p q r h. h.learnt) r
 
 pub demand_3 : (c : Calls Part) (p : CurvePlain) → Reaches c p → Host c p
 unfolding part_refusal part_points fed_curve
@@ -67,30 +70,18 @@ demand_3 c p h =
       approach_there = (approach_answer (from_plain p), record { lifetimes = tt; exits = (p, tt); learnt = refl });
       approach = λ g. rw (plain_of_book h, plain_back, approach_answer_lem) at g.learnt;
       feed_number = λ f. ap (λ (r : CurvePlainFed). r.number) f.call.learnt;
-      feed_refused = stays;
+      feed_refused = λ f n. left_stays _ (f.after ∙ ap (λ (r : CurvePlainFed). r.summary) f.call.learnt) n;
     }
-  where
-    stays : {x : Part} {q : CurvePlain} → FedBy p x q → (part_refusal (book_of c) (mark c) x ≡ 0 → ⊥) → q ≡ p
-    stays {x} f n =
-        f.after ∙ ap (λ (r : CurvePlainFed). r.summary) f.call.learnt
-        ∙ left_stays (part_refusal (book_of c) (mark c) x) p (plain_of (fed_by (from_plain p) (part_points x))) n
 
 -- ---- the claim is of something: every list of calls leaves plain numbers
 
--- what the definitions give a host after a feed, after a join and after the calls
-feeds : CurvePlain → Part → CurvePlainFed
-feeds p x = fed_curve (part_refusal [] false x) (fed_by (from_plain p) (part_points x)) p
-
-joins : CurvePlain → CurvePlain → CurvePlain
-joins p q = plain_of (join_of (from_plain p) (from_plain q))
-
+-- what the definitions give a host after the calls
 pub run : Calls Part → CurvePlain
-run c = run_of (plain_of (summary_of [] false)) (λ p x. (feeds p x).summary) joins c
+run = run_by plain
 
 pub run_reached : (c : Calls Part) → Reaches c (run c)
-unfolding run feeds joins part_refusal part_points
-run_reached c =
-    ran_reached (plain_of (summary_of [] false)) (λ p x. (feeds p x).summary) joins
-    (record { lifetimes = tt; exits = tt; learnt = refl })
-    (λ p x. fed_lists ([], ([], tt)) (feeds p x) (λ a. refl) refl)
-    (λ p q. record { lifetimes = tt; exits = (p, (q, tt)); learnt = refl }) c
+unfolding run part_refusal part_points fed_curve
+run_reached =
+    ran_reached plain (record { lifetimes = tt; exits = tt; learnt = refl })
+    (λ p x. fed_lists ([], ([], tt)) (fed_curve (part_refusal [] false x) (fed_by (from_plain p) (part_points x)) p) (λ a. refl) refl)
+    (λ p q. record { lifetimes = tt; exits = (p, (q, tt)); learnt = refl })

@@ -6,18 +6,18 @@ use mathlib.Core.Bool.{true, false}
 use mathlib.Core.List.{[], ◌∷◌}
 use lib.Ieee.{Float}
 use Rattle.sweep.specs.Answer.{crossing_outcome}
-use Rattle.sweep.specs.Runs.{Calls, mark, Reached, run_of, Returned, FedLists, Answered}
+use Rattle.sweep.specs.Runs.{Calls, mark, Reached, Returned, FedLists, Answered}
 use Rattle.sweep.specs.Scan.{Neighbours}
 use Rattle.sweep.proofs.Answers.{crossing_there, kept_there, crossing_none}
-use Rattle.sweep.proofs.Runs.{left_stays, fed_lists, answered_there, ran_reached}
-use Rattle.sweep.proofs.Plain.{whole_plain}
+use Rattle.sweep.proofs.Runs.{Kind, whole, run_by, ran_reached, left_stays, fed_lists, answered_there}
+use Rattle.sweep.proofs.Plain.{plain_kind}
 use Rattle.sensitivity.specs.Scans.{equal_crosses, sensitivity_crossover, level_of, drops}
-use Rattle.sensitivity.specs.Summary.{summary_of, fed_by, join_of, crossover_answer, bandwidth_answer, bandwidth_outcome, Part, part_refusal, part_readings, book_of}
+use Rattle.sensitivity.specs.Summary.{summary_of, fed_by, crossover_answer, bandwidth_answer, bandwidth_outcome, Part, part_refusal, part_readings, book_of}
 use Rattle.sensitivity.specs.Plain.{plain_of, from_plain}
 use Rattle.sensitivity.specs.declared.Reading.{Reading}
 use Rattle.sensitivity.specs.declared.summary.SensitivityPlain.{SensitivityPlain}
 use Rattle.sensitivity.proofs.Laws.{no_crossover_in, none_of_crossover, no_bandwidth_in, none_of_bandwidth, under_mark, without_mark, only_under_mark, none_unmarked}
-use Rattle.sensitivity.proofs.Joins.{fed_append, join_append, crossover_answer_lem, bandwidth_answer_lem}
+use Rattle.sensitivity.proofs.Joins.{kind, crossover_answer_lem, bandwidth_answer_lem}
 use Rattle.sensitivity.proofs.Plain.{plain_back}
 use Rattle.laws.specs.Outcome.{Outcome, Answers}
 use Rattle.c_summaries.specs.Fed.{fed_sensitivity}
@@ -76,11 +76,13 @@ pub record Host (c : Calls Part) (p : SensitivityPlain) : Type 0 where
 
 -- ---- the proof: whatever the calls leave are the plain numbers of the book's summary
 
+-- the plain numbers are a kind of summary
+abbrev plain : Kind Part Reading SensitivityPlain
+plain = plain_kind kind plain_of from_plain plain_back
+
 pub plain_of_book : {c : Calls Part} {p : SensitivityPlain} → Reaches c p → p ≡ plain_of (summary_of (book_of c) (mark c))
 unfolding book_of part_refusal part_readings fed_sensitivity
-plain_of_book r =
-    whole_plain summary_of fed_by join_of fed_append join_append plain_of from_plain plain_back part_refusal part_readings
-    (λ p h. h.learnt) (λ l m x q h. h.after ∙ ap (λ (f : SensitivityPlainFed). f.summary) h.call.learnt) (λ p q r h. h.learnt) r
+plain_of_book r = whole plain (λ p h. h.learnt) (λ l m x q h. h.after ∙ ap (λ (f : SensitivityPlainFed). f.summary) h.call.learnt) (λ p q r h. h.learnt) r
 
 pub demand_3 : (c : Calls Part) (p : SensitivityPlain) → Reaches c p → Host c p
 unfolding crossover_answer bandwidth_answer part_refusal part_readings fed_sensitivity
@@ -97,7 +99,7 @@ demand_3 c p h =
       no_bandwidth = λ g e. no_bandwidth_in (book_of c) (none_unmarked (mark c) (book_of c) (sym (bandwidth_is g).number ∙ e));
       bandwidth_none = λ g e f. (bandwidth_is g).number ∙ ap (λ (o : Outcome). o.number) (without_mark (mark c) (book_of c) e ∙ none_of_bandwidth (book_of c) f);
       feed_number = λ f. ap (λ (r : SensitivityPlainFed). r.number) f.call.learnt;
-      feed_refused = stays;
+      feed_refused = λ f n. left_stays _ (f.after ∙ ap (λ (r : SensitivityPlainFed). r.summary) f.call.learnt) n;
     }
   where
     crossover_is : {r : ℕ} {before after : Float} → CrossoverOf p r before after → Answers (crossing_outcome (sensitivity_crossover (book_of c))) r (before ∷ []) (after ∷ [])
@@ -106,27 +108,15 @@ demand_3 c p h =
     bandwidth_is : {r : ℕ} {before after : Float} → BandwidthOf p r before after → Answers (bandwidth_outcome (mark c) (book_of c)) r (before ∷ []) (after ∷ [])
     bandwidth_is g = rw (plain_of_book h, plain_back, bandwidth_answer_lem) at g.learnt
 
-    stays : {x : Part} {q : SensitivityPlain} → FedBy p x q → (part_refusal (book_of c) (mark c) x ≡ 0 → ⊥) → q ≡ p
-    stays {x} f n =
-        f.after ∙ ap (λ (r : SensitivityPlainFed). r.summary) f.call.learnt
-        ∙ left_stays (part_refusal (book_of c) (mark c) x) p (plain_of (fed_by (from_plain p) (part_readings x))) n
-
 -- ---- the claim is of something: every list of calls leaves plain numbers
 
--- what the definitions give a host after a feed, after a join and after the calls
-feeds : SensitivityPlain → Part → SensitivityPlainFed
-feeds p x = fed_sensitivity (part_refusal [] false x) (fed_by (from_plain p) (part_readings x)) p
-
-joins : SensitivityPlain → SensitivityPlain → SensitivityPlain
-joins p q = plain_of (join_of (from_plain p) (from_plain q))
-
+-- what the definitions give a host after the calls
 pub run : Calls Part → SensitivityPlain
-run c = run_of (plain_of (summary_of [] false)) (λ p x. (feeds p x).summary) joins c
+run = run_by plain
 
 pub run_reached : (c : Calls Part) → Reaches c (run c)
-unfolding run feeds joins part_refusal part_readings
-run_reached c =
-    ran_reached (plain_of (summary_of [] false)) (λ p x. (feeds p x).summary) joins
-    (record { lifetimes = tt; exits = tt; learnt = refl })
-    (λ p x. fed_lists ([], ([], ([], tt))) (feeds p x) (λ a. refl) refl)
-    (λ p q. record { lifetimes = tt; exits = (p, (q, tt)); learnt = refl }) c
+unfolding run part_refusal part_readings fed_sensitivity
+run_reached =
+    ran_reached plain (record { lifetimes = tt; exits = tt; learnt = refl })
+    (λ p x. fed_lists ([], ([], ([], tt))) (fed_sensitivity (part_refusal [] false x) (fed_by (from_plain p) (part_readings x)) p) (λ a. refl) refl)
+    (λ p q. record { lifetimes = tt; exits = (p, (q, tt)); learnt = refl })

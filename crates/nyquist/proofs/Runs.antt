@@ -6,18 +6,17 @@
 -- generated `Learnt` of `empty`, `feed` and `join` is what a caller learns of a call, whatever it returned.
 -- The claim is `demand_3`: whatever summary the calls leave, and whatever the answer then returns, `Claim c s` holds. `run_reached` says that every
 -- list of calls leaves a summary. Assumes nothing.
-use mathlib.Core.Path.{◌≡◌, refl, sym, ◌∙◌}
-use mathlib.Core.Bool.{false}
-use mathlib.Core.List.{List, [], ◌∷◌}
+use mathlib.Core.Path.{◌≡◌, refl, ◌∙◌}
+use mathlib.Core.List.{[], ◌∷◌}
 use lib.Ieee.{Float}
 use Rattle.sweep.specs.Refusal.{refusal_of}
-use Rattle.sweep.specs.Runs.{Calls, mark, Reached, left_after, left_by, run_of, Returned, FedLists}
-use Rattle.sweep.proofs.Conditions.{Checked, scan_checked}
-use Rattle.sweep.proofs.Runs.{whole, left_stays, result_says, fed_lists, ran_reached}
+use Rattle.sweep.specs.Runs.{Calls, mark, Reached, left_by, Returned, FedLists}
+use Rattle.sweep.proofs.Conditions.{scan_checked}
+use Rattle.sweep.proofs.Runs.{whole, run_by, ran_reached, left_stays, checked_feed}
 use Rattle.nyquist.specs.Curve.{distance_of, curve_refusal}
-use Rattle.nyquist.specs.Summary.{summary_of, fed_by, join_of, approach_answer, Part, part_refusal, part_points, book_of}
+use Rattle.nyquist.specs.Summary.{summary_of, approach_answer, Part, part_refusal, part_points, book_of}
 use Rattle.nyquist.specs.declared.summary.CurveSummary.{CurveSummary}
-use Rattle.nyquist.proofs.Joins.{fed_append, join_append, approach_answer_lem}
+use Rattle.nyquist.proofs.Joins.{kind, approach_answer_lem}
 use Rattle.nyquist.proofs.summary.CurveSummary.empty.Reads as empty_reads
 use Rattle.nyquist.proofs.summary.CurveSummary.feed.Reads as feed_reads
 use Rattle.nyquist.proofs.summary.CurveSummary.join.Reads as join_reads
@@ -59,9 +58,7 @@ pub record Claim (c : Calls Part) (s : CurveSummary) : Type 0 where
 
 pub summary_of_book : {c : Calls Part} {s : CurveSummary} → Reaches c s → s ≡ summary_of (book_of c) (mark c)
 unfolding book_of part_refusal part_points
-summary_of_book r =
-    whole summary_of fed_by join_of fed_append join_append part_refusal part_points
-    (λ s h. h.learnt) (λ l m p t h. h.after ∙ h.call.learnt.1) (λ s t u h. h.learnt) r
+summary_of_book r = whole kind (λ s h. h.learnt) (λ l m p t h. h.after ∙ h.call.learnt.1) (λ s t u h. h.learnt) r
 
 pub demand_3 : (c : Calls Part) (s : CurveSummary) → Reaches c s → Claim c s
 unfolding part_refusal part_points
@@ -70,38 +67,21 @@ demand_3 c s h =
       approach_there = (approach_answer s, record { lifetimes = tt; exits = (s, tt); learnt = refl });
       approach = λ r g. rw (summary_of_book h, approach_answer_lem) at g.learnt;
       feed_number = λ f. f.call.learnt.0;
-      feed_refused = stays;
+      feed_refused = λ f n. left_stays _ (f.after ∙ f.call.learnt.1) n;
     }
-  where
-    stays : {p : Part} {t : CurveSummary} → FedBy s p t → (part_refusal (book_of c) (mark c) p ≡ 0 → ⊥) → t ≡ s
-    stays {p} f n = f.after ∙ f.call.learnt.1 ∙ left_stays (part_refusal (book_of c) (mark c) p) s (fed_by s (part_points p)) n
 
 -- ---- the claim is of something: every list of calls leaves a summary
 
-curve_checked : (re im : List Float) → Checked (curve_refusal re im)
-unfolding curve_refusal
-curve_checked re im = scan_checked _ _
-
--- the summary that the definitions leave after a feed
-next : CurveSummary → Part → CurveSummary
-next s p = left_after (part_refusal [] false p) s (fed_by s (part_points p))
-
-feed_possible : (s : CurveSummary) (p : Part) → FedBy s p (next s p)
-unfolding next part_refusal part_points
-feed_possible s p =
-    let k = curve_checked p.re p.im in
-    let r = result_says k s (fed_by s (part_points p)) in
-    fed_lists ([], ([], tt)) r.0 (λ a. r.1) (sym r.1.1)
-
 -- the summary that the definitions leave after the calls
 pub run : Calls Part → CurveSummary
-run c = run_of (summary_of [] false) next join_of c
+run = run_by kind
 
 pub run_reached : (c : Calls Part) → Reaches c (run c)
-unfolding run
-run_reached c =
-    ran_reached (summary_of [] false) next join_of
-    (record { lifetimes = tt; exits = tt; learnt = refl }) feed_possible (λ s t. record { lifetimes = tt; exits = (s, (t, tt)); learnt = refl }) c
+unfolding run part_refusal part_points curve_refusal
+run_reached =
+    ran_reached kind (record { lifetimes = tt; exits = tt; learnt = refl })
+    (λ s p. checked_feed ([], ([], tt)) _ (scan_checked _ _) (λ a r h. h))
+    (λ s t. record { lifetimes = tt; exits = (s, (t, tt)); learnt = refl })
 
 -- ---- two lists of calls with the same book answer the same, however the curve was cut, fed and joined
 

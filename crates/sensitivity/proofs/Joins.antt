@@ -11,9 +11,9 @@ use Rattle.sweep.specs.Runs.{Cuts, list_of, joined_up}
 use Rattle.sweep.specs.Scan.{or_else, first_pair}
 use Rattle.sweep.proofs.Scans.{or_else_assoc, kept_or}
 use Rattle.sweep.proofs.Behind.{ends-append, crossing-append}
-use Rattle.sweep.proofs.Runs.{join_assoc, neutral_before, neutral_behind, fed_uncut, joined_uncut}
+use Rattle.sweep.proofs.Runs.{Kind, join_assoc, neutral_before, neutral_behind, fed_uncut, joined_uncut}
 use Rattle.sensitivity.specs.Scans.{zero_reading, equal_pair, drop_pair, level_of, sensitivity_crossover, bandwidth_of}
-use Rattle.sensitivity.specs.Summary.{bandwidth_under, summary_of, join_of, drop_behind, fed_by, crossover_answer, bandwidth_answer, bandwidth_outcome}
+use Rattle.sensitivity.specs.Summary.{bandwidth_under, summary_of, join_of, drop_behind, fed_by, crossover_answer, bandwidth_answer, bandwidth_outcome, Part, part_refusal, part_readings}
 use Rattle.sensitivity.specs.declared.Reading.{Reading}
 use Rattle.sensitivity.specs.declared.summary.SensitivitySummary.{SensitivitySummary}
 
@@ -62,6 +62,10 @@ fed_append l m k =
       bandwidth = bandwidth_append l m k i;
     })
 
+-- so the summary of S and T is a kind of summary
+abbrev pub kind : Kind Part Reading SensitivitySummary
+kind = record { at = summary_of; fed_by = fed_by; join_of = join_of; number = part_refusal; part = part_readings; fed-law = fed_append; join-law = join_append }
+
 -- ---- the answers of a list's summary: the crossover is that of the list under either mark, the bandwidth only where the mark is not set
 
 pub crossover_answer_lem : (l : List Reading) (m : Bool) → crossover_answer (summary_of l m) ≡ crossing_outcome (sensitivity_crossover l)
@@ -99,22 +103,22 @@ module _ (s t : SensitivitySummary) where
 
 pub join_associates : (l : List Reading) (m : Bool) (k : List Reading) (n : Bool) (j : List Reading) (o : Bool)
     → join_of (join_of (summary_of l m) (summary_of k n)) (summary_of j o) ≡ join_of (summary_of l m) (join_of (summary_of k n) (summary_of j o))
-join_associates = join_assoc summary_of fed_by join_of fed_append join_append
+join_associates = join_assoc kind
 
 pub crossover_neutral : (l : List Reading) (m n : Bool)
     → (crossover_answer (join_of (summary_of [] n) (summary_of l m)) ≡ crossover_answer (summary_of l m)) × (crossover_answer (join_of (summary_of l m) (summary_of [] n)) ≡ crossover_answer (summary_of l m))
 crossover_neutral l m n = (
-  neutral_before summary_of fed_by join_of fed_append join_append crossover_answer blind_crossover n l m,
-  neutral_behind summary_of fed_by join_of fed_append join_append crossover_answer blind_crossover l m n,
+  neutral_before kind crossover_answer blind_crossover n l m,
+  neutral_behind kind crossover_answer blind_crossover l m n,
 )
 
 -- ---- a sweep that is cut anywhere and fed, or cut into any parts that are joined in any bracketing, answers what it answers uncut
 
 pub crossover_fed : (l k : List Reading) (m : Bool) → crossover_answer (fed_by (summary_of l m) k) ≡ crossover_answer (summary_of (l ++ k) false)
-crossover_fed = fed_uncut summary_of fed_by join_of fed_append join_append crossover_answer blind_crossover
+crossover_fed = fed_uncut kind crossover_answer blind_crossover
 
 pub bandwidth_fed : (l k : List Reading) → bandwidth_answer (fed_by (summary_of l false) k) ≡ bandwidth_answer (summary_of (l ++ k) false)
 bandwidth_fed l k = ap bandwidth_answer (fed_append l false k)
 
 pub crossover_joined : (c : Cuts Reading) → crossover_answer (joined_up summary_of join_of c) ≡ crossover_answer (summary_of (list_of c) false)
-crossover_joined = joined_uncut summary_of fed_by join_of fed_append join_append crossover_answer blind_crossover
+crossover_joined = joined_uncut kind crossover_answer blind_crossover

@@ -14,17 +14,17 @@ use Rattle.std.specs.Prelude.{Option, Result, Float}
 use Rattle.laws.specs.Outcome.{Outcome, none}
 use Rattle.sweep.specs.Answer.{crossing_outcome, kept_outcome, not_kept}
 use Rattle.sweep.specs.Refusal.{refusal_of}
-use Rattle.sweep.specs.Runs.{Calls, mark, Reached, left_after, left_by, run_of, Returned, FedLists}
+use Rattle.sweep.specs.Runs.{Calls, mark, Reached, left_by, Returned, FedLists}
 use Rattle.sweep.specs.Scan.{Neighbours}
 use Rattle.sweep.specs.declared.NotKept.{NotKept}
 use Rattle.sweep.proofs.Conditions.{lists_checked}
-use Rattle.sweep.proofs.Runs.{whole, left_stays, result_says, fed_lists, ran_reached}
+use Rattle.sweep.proofs.Runs.{whole, run_by, ran_reached, left_stays, checked_feed}
 use Rattle.sensitivity.specs.Scans.{equal_crosses, sensitivity_crossover, level_of, drops, bandwidth_of}
-use Rattle.sensitivity.specs.Summary.{summary_of, fed_by, join_of, crossover_answer, bandwidth_answer, bandwidth_outcome, Part, part_refusal, part_readings, book_of}
+use Rattle.sensitivity.specs.Summary.{summary_of, crossover_answer, bandwidth_answer, bandwidth_outcome, Part, part_refusal, part_readings, book_of}
 use Rattle.sensitivity.specs.declared.Reading.{Reading}
 use Rattle.sensitivity.specs.declared.summary.SensitivitySummary.{SensitivitySummary}
 use Rattle.sensitivity.proofs.Laws.{no_crossover_in, none_of_crossover, no_bandwidth_in, none_of_bandwidth, under_mark, without_mark, only_under_mark, none_unmarked}
-use Rattle.sensitivity.proofs.Joins.{fed_append, join_append, crossover_answer_lem, bandwidth_answer_lem}
+use Rattle.sensitivity.proofs.Joins.{kind, crossover_answer_lem, bandwidth_answer_lem}
 use Rattle.sensitivity.proofs.summary.SensitivitySummary.empty.Reads as empty_reads
 use Rattle.sensitivity.proofs.summary.SensitivitySummary.feed.Reads as feed_reads
 use Rattle.sensitivity.proofs.summary.SensitivitySummary.join.Reads as join_reads
@@ -80,9 +80,7 @@ pub record Claim (c : Calls Part) (s : SensitivitySummary) : Type 0 where
 
 pub summary_of_book : {c : Calls Part} {s : SensitivitySummary} → Reaches c s → s ≡ summary_of (book_of c) (mark c)
 unfolding book_of part_refusal part_readings
-summary_of_book r =
-    whole summary_of fed_by join_of fed_append join_append part_refusal part_readings
-    (λ s h. h.learnt) (λ l m p t h. h.after ∙ h.call.learnt.1) (λ s t u h. h.learnt) r
+summary_of_book r = whole kind (λ s h. h.learnt) (λ l m p t h. h.after ∙ h.call.learnt.1) (λ s t u h. h.learnt) r
 
 pub demand_3 : (c : Calls Part) (s : SensitivitySummary) → Reaches c s → Claim c s
 unfolding crossover_answer bandwidth_answer part_refusal part_readings
@@ -99,7 +97,7 @@ demand_3 c s h =
       no_bandwidth = λ r g e. no_bandwidth_in (book_of c) (none_unmarked (mark c) (book_of c) (ap number (sym (bandwidth_is r g) ∙ e)));
       bandwidth_none = λ r g e f. bandwidth_is r g ∙ without_mark (mark c) (book_of c) e ∙ none_of_bandwidth (book_of c) f;
       feed_number = λ f. f.call.learnt.0;
-      feed_refused = stays;
+      feed_refused = λ f n. left_stays _ (f.after ∙ f.call.learnt.1) n;
     }
   where
     number : Outcome → ℕ
@@ -111,30 +109,18 @@ demand_3 c s h =
     bandwidth_is : (r : Result (Option Float) NotKept) → BandwidthOf s r → kept_outcome r ≡ bandwidth_outcome (mark c) (book_of c)
     bandwidth_is r g = rw (summary_of_book h, bandwidth_answer_lem) at g.learnt
 
-    stays : {p : Part} {t : SensitivitySummary} → FedBy s p t → (part_refusal (book_of c) (mark c) p ≡ 0 → ⊥) → t ≡ s
-    stays {p} f n = f.after ∙ f.call.learnt.1 ∙ left_stays (part_refusal (book_of c) (mark c) p) s (fed_by s (part_readings p)) n
-
 -- ---- the claim is of something: every list of calls leaves a summary
-
--- the summary that the definitions leave after a feed
-next : SensitivitySummary → Part → SensitivitySummary
-next s p = left_after (part_refusal [] false p) s (fed_by s (part_readings p))
-
-feed_possible : (s : SensitivitySummary) (p : Part) → FedBy s p (next s p)
-unfolding next part_refusal part_readings
-feed_possible s p =
-    let r = result_says (lists_checked p.omega p.s p.t) s (fed_by s (part_readings p)) in
-    fed_lists ([], ([], ([], tt))) r.0 (λ a. r.1) (sym r.1.1)
 
 -- the summary that the definitions leave after the calls
 pub run : Calls Part → SensitivitySummary
-run c = run_of (summary_of [] false) next join_of c
+run = run_by kind
 
 pub run_reached : (c : Calls Part) → Reaches c (run c)
-unfolding run
-run_reached c =
-    ran_reached (summary_of [] false) next join_of
-    (record { lifetimes = tt; exits = tt; learnt = refl }) feed_possible (λ s t. record { lifetimes = tt; exits = (s, (t, tt)); learnt = refl }) c
+unfolding run part_refusal part_readings
+run_reached =
+    ran_reached kind (record { lifetimes = tt; exits = tt; learnt = refl })
+    (λ s p. checked_feed ([], ([], ([], tt))) _ (lists_checked p.omega p.s p.t) (λ a r h. h))
+    (λ s t. record { lifetimes = tt; exits = (s, (t, tt)); learnt = refl })
 
 -- ---- two lists of calls with the same book answer the same, however the sweep was cut, fed and joined
 

@@ -2,7 +2,7 @@
 use Prim.Native.Nat.{ℕ, ◌<◌}
 use mathlib.Core.Path.{◌≡◌, refl, ◌∙◌, ap}
 use mathlib.Core.Bool.{Bool, true, false}
-use mathlib.Core.List.{List, [], ◌++◌}
+use mathlib.Core.List.{List, ◌++◌}
 use native.Mathlib.Omega.{arith}
 use borrow.Author.Tests.{ne_eqb}
 use lib.Ieee.{Float}
@@ -11,9 +11,8 @@ use Rattle.std.specs.Bool.{then_some}
 use Rattle.std.specs.Int.{from_bool}
 use Rattle.scalar.specs.Scalar.{f0}
 use Rattle.sweep.specs.Plain.{read_mark, marked_read, crossing_mark, crossing_value, marked_crossing, kept_mark, kept_value, marked_kept}
-use Rattle.sweep.specs.Runs.{Calls, book, mark, Reached, left_after, is_taken}
 use Rattle.sweep.specs.declared.NotKept.{NotKept}
-use Rattle.sweep.proofs.Runs.{whole}
+use Rattle.sweep.proofs.Runs.{Kind}
 
 -- ---- what a program writes and reads for them
 
@@ -62,11 +61,10 @@ crossing_counts mark x h = rw (ne_eqb mark 0 h)
 pub kept_not : (mark : ℕ) (x : Float) → 1 < mark → marked_kept mark x ≡ Err (record {})
 kept_not mark x h = rw (ne_eqb mark 0 (λ (e : mark ≡ 0). omega arith), ne_eqb mark 1 (λ (e : mark ≡ 1). omega arith))
 
--- ---- A kind of summary by its laws, as in `Runs`, whose summaries cross as plain numbers and are read back.
-module _ {R S Q : Type 0} (at : List R → Bool → S) (fed_by : S → List R → S) (join_of : S → S → S)
-    (fed-law : (l : List R) (m : Bool) (k : List R) → fed_by (at l m) k ≡ at (l ++ k) m)
-    (join-law : (l : List R) (m : Bool) (k : List R) (n : Bool) → join_of (at l m) (at k n) ≡ at (l ++ k) true)
-    (plain_of : S → Q) (from_plain : Q → S) (back : (s : S) → from_plain (plain_of s) ≡ s) where
+-- ---- A kind of summary whose summaries cross as plain numbers and are read back.
+module _ {P R S Q : Type 0} (kind : Kind P R S) (plain_of : S → Q) (from_plain : Q → S) (back : (s : S) → from_plain (plain_of s) ≡ s) where
+  open kind use {at, fed_by, join_of, number, part, fed-law, join-law}
+
   abbrev plain_at : List R → Bool → Q
   plain_at l m = plain_of (at l m)
 
@@ -76,18 +74,12 @@ module _ {R S Q : Type 0} (at : List R → Bool → S) (fed_by : S → List R �
   abbrev plain_joined : Q → Q → Q
   plain_joined p q = plain_of (join_of (from_plain p) (from_plain q))
 
-  fed_plain : (l : List R) (m : Bool) (k : List R) → plain_fed (plain_at l m) k ≡ plain_at (l ++ k) m
+  pub fed_plain : (l : List R) (m : Bool) (k : List R) → plain_fed (plain_at l m) k ≡ plain_at (l ++ k) m
   fed_plain l m k = ap (λ (s : S). plain_of (fed_by s k)) (back (at l m)) ∙ ap plain_of (fed-law l m k)
 
-  joined_plain : (l : List R) (m : Bool) (k : List R) (n : Bool) → plain_joined (plain_at l m) (plain_at k n) ≡ plain_at (l ++ k) true
+  pub joined_plain : (l : List R) (m : Bool) (k : List R) (n : Bool) → plain_joined (plain_at l m) (plain_at k n) ≡ plain_at (l ++ k) true
   joined_plain l m k n = rw (back (at l m), back (at k n)) (ap plain_of (join-law l m k n))
 
-  -- Whatever a host's list of calls reaches are the plain numbers of the book's summary.
-  pub whole_plain : {P : Type 0} (number : List R → Bool → P → ℕ) (part : P → List R)
-      {Made : Q → Type 0} {Fed : Q → P → Q → Type 0} {Joined : Q → Q → Q → Type 0}
-      → ((p : Q) → Made p → p ≡ plain_of (at [] false))
-      → ((l : List R) (m : Bool) (x : P) (q : Q) → Fed (plain_of (at l m)) x q
-      → q ≡ left_after (number l m x) (plain_of (at l m)) (plain_of (fed_by (from_plain (plain_of (at l m))) (part x))))
-      → ((p q r : Q) → Joined p q r → r ≡ plain_of (join_of (from_plain p) (from_plain q)))
-      → {c : Calls P} {p : Q} → Reached Made Fed Joined c p → p ≡ plain_of (at (book (λ l m x. is_taken (number l m x)) part c) (mark c))
-  whole_plain number part hm hf hj r = whole plain_at plain_fed plain_joined fed_plain joined_plain number part hm hf hj r
+  -- The plain numbers are a kind of summary themselves.
+  abbrev pub plain_kind : Kind P R Q
+  plain_kind = record { at = plain_at; fed_by = plain_fed; join_of = plain_joined; number = number; part = part; fed-law = fed_plain; join-law = joined_plain }
