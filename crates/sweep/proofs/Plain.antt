@@ -6,34 +6,10 @@ use mathlib.Core.List.{List, ◌++◌}
 use native.Mathlib.Omega.{arith}
 use borrow.Author.Tests.{ne_eqb}
 use lib.Ieee.{Float}
-use Rattle.std.specs.Prelude.{Option, Some, None, Result, Ok, Err, not, cond, is_some, nat_eq, unwrap_or}
-use Rattle.std.specs.Bool.{then_some}
-use Rattle.std.specs.Int.{from_bool}
-use Rattle.scalar.specs.Scalar.{f0}
+use Rattle.std.specs.Prelude.{Option, Some, None, Result, Ok, Err}
 use Rattle.sweep.specs.Plain.{read_mark, marked_read, crossing_mark, crossing_value, marked_crossing, kept_mark, kept_value, marked_kept}
 use Rattle.sweep.specs.declared.NotKept.{NotKept}
 use Rattle.sweep.proofs.Runs.{Kind}
-
--- ---- what a program writes and reads for them
-
-pub read_number : (b : Bool) → from_bool b ≡ read_mark b
-read_number true = refl
-read_number false = refl
-
-pub crossing_number : (c : Option Float) → from_bool (is_some c) ≡ crossing_mark c
-crossing_number (Some x) = refl
-crossing_number None = refl
-
-pub crossing_float : (c : Option Float) → unwrap_or c f0 ≡ crossing_value c
-crossing_float (Some x) = refl
-crossing_float None = refl
-
-pub some_marked : (mark : ℕ) (x : Float) → then_some (not (nat_eq mark 0)) x ≡ marked_crossing mark x
-some_marked mark x = go (nat_eq mark 0)
-  where
-    go : (b : Bool) → then_some (not b) x ≡ cond b None (Some x)
-    go true = refl
-    go false = refl
 
 -- ---- what is written is read back
 
