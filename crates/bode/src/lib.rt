@@ -109,8 +109,8 @@ impl Crossing<Reading> for GainMargin {
     ghost pair = { λ m. gain_margin_pair m.at };
 
     fn pair(&self, a: Reading, b: Reading) -> Option<f64> {
-        sweep::encloses(self.at, a.omega, b.omega)
-            .then(|| -value_at(self.at, a.omega, b.omega, a.db, b.db))
+        let margin = || -value_at(self.at, a.omega, b.omega, a.db, b.db);
+        sweep::encloses(self.at, a.omega, b.omega).then(margin)
     }
 }
 
@@ -125,8 +125,8 @@ impl Crossing<Reading> for PhaseMargin {
     ghost pair = { λ m. phase_margin_pair m.at };
 
     fn pair(&self, a: Reading, b: Reading) -> Option<f64> {
-        sweep::encloses(self.at, a.omega, b.omega)
-            .then(|| 180.0 + value_at(self.at, a.omega, b.omega, a.phase, b.phase))
+        let margin = || 180.0 + value_at(self.at, a.omega, b.omega, a.phase, b.phase);
+        sweep::encloses(self.at, a.omega, b.omega).then(margin)
     }
 }
 
