@@ -2,11 +2,12 @@
 -- Assumes nothing.
 use Prim.Native.Nat.{ℕ, ◌+◌, ◌-◌, ◌*◌, ◌/◌, ◌^◌}
 use mathlib.Core.Path.{◌≡◌, refl, sym, ◌∙◌, ap}
-use mathlib.Core.Bool.{true, false}
+use mathlib.Core.Bool.{Bool, true, false}
 use native.Mathlib.Nat.{mul_right_comm, le_antisymm}
 use lib.IntN.{ℤ}
 use lib.Dec.{T, T_not}
-use lib.Ieee.{Float, nan, inf, fin, Format, prec, low, hid, up, down, size, lt, le, is_nan, fits, to_bits, of_bits}
+use lib.Ieee.{Float, nan, inf, fin, Format, prec, low, hid, up, down, size, lt, le, ne, is_nan, fits, to_bits, of_bits}
+use lib.Ieee.Compare.{differs_from_itself}
 use lib.Ieee.Fits.{down_pos}
 use lib.Ieee.Nearest.{div_same}
 use lib.Ieee.Bits.{of_bits-to_bits}
@@ -72,3 +73,15 @@ le_antisym f (fin false m e) (fin false n d) p q a h k =
     let y = fin false n d in
     let b : T (above y) = above_of_le x y a h in
     sym (of_bits-to_bits f x p) ∙ ap (of_bits f) (same_bits f m e n d (le_antisymm (le→cross x y a b h) (le→cross y x b a k))) ∙ of_bits-to_bits f y q
+
+-- only a NaN differs from itself (a law that docs/requests/W1.md names, and no proof here needs)
+pub ne_itself : (x : Float) → ne x x ≡ is_nan x
+unfolding is_nan
+ne_itself nan = unfold ne in refl
+ne_itself (inf true) = unfold ne in refl
+ne_itself (inf false) = unfold ne in refl
+ne_itself (fin s m e) = go (ne (fin s m e) (fin s m e)) refl
+  where
+    go : (b : Bool) → ne (fin s m e) (fin s m e) ≡ b → b ≡ false
+    go false h = refl
+    go true h = let d : fin s m e ≡ nan = differs_from_itself (fin s m e) (rw h tt) in cc
