@@ -1,4 +1,4 @@
--- The readings of bytes. Assumes nothing.
+-- The readings of bytes. (`read_length`, `read_at` and `read_past` are std's laws of `map`, said of `read` for the attributes that name them.) Assumes nothing.
 use Rattle.std.proofs.Common.{ℕ, ◌≡◌, ◌/◌, ◌<◌, ◌≤◌, List, [], length, get_or, arith}
 use Rattle.std.proofs.lemmas.List.{get_or-map, length-map}
 use lib.ListN.{get_or-eq_default}

@@ -130,7 +130,7 @@ impl Quartic {
         }
     }
 
-    // The whole part of its value at w / 2^32.
+    // The whole part of its value at w / 2^32. (Both are u64, whose bound is said: their products have up to 64 digits.)
     fn at(self, w: u64) -> u64
         requires { w < 2 ^ 32 }
         ensures { result < 2 ^ 32 }

@@ -283,7 +283,8 @@ impl Replay {
     }
 
     // Reads three lists as `padded` does, each cut off at 5000 floats, and passes them on. Their lengths come first, that
-    // of the third only where it has one, and the number of copies before them. Nothing is counted but by the call.
+    // of the third only where it has one, and the number of copies before them. Nothing is counted but by the call. (A
+    // third list that is not there is empty: as an option each program would take it apart, for one kind that has none.)
     pub fn lists<F: FnOnce(&mut Replay, &[f64], &[f64], &[f64])>(
         &mut self,
         has_third: bool,
