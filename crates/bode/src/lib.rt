@@ -98,7 +98,7 @@ fn value_at(x: f64, w0: f64, w1: f64, v0: f64, v1: f64) -> f64
 }
 
 // The gain margin at a phase crossover, in the pair whose frequencies enclose it: the magnitude there, negated. (This and the
-// next are a type each, as the two crossings are: what they make of two readings is all that they have but for the place.)
+// next are a type each, as the two crossings are: beside the frequency each has only what it makes of two readings.)
 #[derive(Clone, Copy)]
 struct GainMargin {
     at: f64,
@@ -158,7 +158,8 @@ pub fn phase_crossover_frequency(
 }
 
 // The gain margin in dB: the negated magnitude at the phase crossover. (This and the next are five lines each, of which two name
-// what differs: one function of both, passed a crossing and a closure that makes another, would be longer. Document 01 has the `match`.)
+// what differs: one function of both, passed a crossing and a closure that makes another, would be longer. The `match` is
+// document 01's.)
 #[tactic(auto, unfolding(sweep::specs::Scan::scanned_by, crate::specs::Bode::phase_crossover, crate::specs::Bode::gain_margin, crate::specs::Bode::margin_at), using(sweep::proofs::Answers::scan_turned_away, sweep::proofs::Answers::scan_let_through))]
 pub fn gain_margin(omega: &[f64], db: &[f64], phase: &[f64]) -> Result<Option<f64>, FreqError>
     ensures { outcome_of result ≡ scanned_by reading gain_margin omega.now db.now phase.now }

@@ -62,7 +62,7 @@ impl BodeSummary {
     }
 
     // The summary with a part's readings behind it, or the refusal; the caller then still has the summary as it came. (Each kind
-    // has this in two lines, of which one names what differs.)
+    // of summary has its own: two lines, of which one names what differs.)
     #[tactic(auto, unfolding(sweep::specs::Runs::left_after))]
     pub fn feed(self, omega: &[f64], db: &[f64], phase: &[f64]) -> Result<BodeSummary, FreqError>
         ensures { (refusal_of result ≡ lists_refusal omega.now db.now phase.now)

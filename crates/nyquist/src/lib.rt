@@ -28,8 +28,8 @@ fn or_zero(distance: f64) -> f64
 }
 
 // The least distance of the points (re[i], im[i]) from (-1, 0). The root keeps the order, so the least square has the
-// least root, and one root serves the whole curve. (An option as a scan's, though there always is one, so that one definition and
-// its laws say what every scan answers.)
+// least root, and one root serves the whole curve. (An option, though there always is one: a
+// `Result<f64, FreqError>` would need a definition of its outcome, and laws, for this one function.)
 #[tactic(auto, using(crate::proofs::Answers::distance_refused, crate::proofs::Answers::distance_found))]
 pub fn distance_to_critical(re: &[f64], im: &[f64]) -> Result<Option<f64>, FreqError>
     ensures { outcome_of result ≡ distance_outcome re.now im.now }

@@ -145,7 +145,8 @@ fn side_of<T: Told>(pattern: u64) -> Side
 }
 
 // The first crossing. Readings are passed over while they lie on the side of the one before; the others are looked at with
-// it. (By place: of most readings one value is read, and the two only where the side changes.)
+// it. (By place: a run is passed over by one value of each reading, and two whole readings are made where the side changes;
+// pairs of chunks would be no plainer.)
 #[tactic(auto, using(bode::proofs::Crossovers::crossover_is, sweep::proofs::Scans::pair_next, sweep::proofs::Scans::pair_found, sweep::proofs::Scans::pairs_done, crate::proofs::Decoded::read_length, crate::proofs::Scanning::nowhere, crate::proofs::Scanning::quiet_next, crate::proofs::Scanning::run_on, crate::proofs::Scanning::run_begins))]
 fn first_crossing<T: Told>(told: &T, readings: Bytes) -> Option<f64>
     ensures { result ≡ crossover_of T.which (read readings.entry.readings.now) }
@@ -194,7 +195,7 @@ fn crossing<T: Told>(told: &T, readings: &[u8], room: usize) -> Result<Option<f6
 }
 
 // The number of what a call comes to; a frequency goes to the first eight bytes of `answer`. (Bytes and a number, for the C
-// interface. `places::Answer` puts floats: the frequency would be put, and its bytes after it.)
+// interface. `places::Answer` puts floats: the frequency would be put into a float first, and its bytes be written from there.)
 #[tactic(auto, using(crate::proofs::Replies::value_written, crate::proofs::Replies::none_told, crate::proofs::Replies::refusal_told))]
 fn reply<T: Told>(told: &T, readings: &[u8], answer: &mut [u8]) -> u32
     ensures { Replies (panel_outcome (crossover_of T.which) readings.now answer.old) result answer.old answer.new }

@@ -26,7 +26,7 @@ pub fn poles_of(parts: &[f64; 16]) -> [Complex; 8]
     )
 }
 
-// (No `From`, as of `poles_of`.)
+// Eight poles into such an array. (No `From`, for the reason at `poles_of`.)
 pub fn put_poles(z: [Complex; 8], parts: &mut [f64; 16])
     ensures { parts.new ≡ parts_of z }
 {

@@ -30,7 +30,8 @@ fn readings(omega: &[f64], db: &[f64], phase: &[f64]) -> [Reading; 5000] {
     readings
 }
 
-// (Three slices, as long as they may be refused: `sweep::Lists` holds what is not.) Lists of different lengths are no readings, and the answer is to nothing then.
+// Lists of different lengths are no readings, and the answer is to nothing then. (Three slices, since these may be refused:
+// `sweep::Lists` holds only lists that are not.)
 fn ask_readings(replay: &mut Replay, omega: &[f64], db: &[f64], phase: &[f64]) {
     let n = omega.len();
     if n <= 5000 && db.len() == n && phase.len() == n {

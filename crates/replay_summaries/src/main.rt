@@ -24,8 +24,8 @@ const QUESTIONS: [(u64, &str); 9] = [
     (0, "no question"),
 ];
 
-// The number of a feed. The summary is the new one, unless the feed was refused. (c_summaries has this of plain numbers, for
-// itself alone.)
+// The number of a feed. The summary is the new one, unless the feed was refused. (c_summaries has the like, private, for
+// what C keeps: shared it would be public there, and this program would need that crate for five lines.)
 fn put_fed<S: Drop>(summary: &mut S, fed: Result<S, FreqError>) -> u64 {
     match fed {
         Ok(new) => {

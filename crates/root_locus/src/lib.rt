@@ -63,8 +63,8 @@ static START: [[f64; 2]; 30] = [
 ];
 
 // Roots with their count, and how the search for them ended; the places past the count hold (0, 0). They are what the
-// formulas and the search give: nothing says that the polynomial is 0 there. (An array with a count: there is no heap. So what
-// fills such an array asks for 8 numbers at most, each of its own argument.)
+// formulas and the search give: nothing says that the polynomial is 0 there. (An array with a count: there is no heap. So each
+// function that fills such an array requires a bound of 8 of its own argument.)
 #[derive(Clone, Copy)]
 struct Roots {
     z: [Complex; 8],
@@ -89,7 +89,7 @@ impl Roots {
     }
 }
 
-// The pairs of a degree, in one table as the definition has them: 4 of degree 4, 5 of degree 5 and on. (Below 4 nothing is
+// The pairs of a degree from 4 to 8, as many as the degree, in one table, as their definition has it. (Below 4 nothing is
 // searched for.)
 #[tactic(auto, unfolding(crate::specs::StartingPoints::start_table, crate::specs::StartingPoints::pair, crate::specs::StartingPoints::first_point))]
 fn start(degree: usize) -> &'static [[f64; 2]]
@@ -307,8 +307,8 @@ pub fn stability_region(poles: [Complex; 8], count: usize) -> bool
 }
 
 // A point of the root locus: the gain and so many poles, with (0, 0) in the places past them, and how the search for
-// them ended. (The poles are an array with a count, since the C interface hands them on so, and fields here, as the Rust's are,
-// while `Roots` is the search's own.)
+// them ended. (The poles are an array with a count, since the C interface hands them on so. Poles, count and ending are
+// fields and no `Roots`, which is the search's own and private.)
 #[derive(Clone, Copy)]
 pub struct LocusPoint {
     pub gain: f64,
@@ -319,7 +319,7 @@ pub struct LocusPoint {
 
 // The conditions of a locus point but for the last one, on the degree that is left, which a degree of 0 passes. (A grid's
 // check is no part of them: its first two stand here too, but its third comes after those on the order. k_max, n and i stay
-// three parameters, as the Rust and C have them: a struct would be made for this call and the gain's.)
+// three parameters, as C has them: a struct would serve this call and the gain's alone.)
 #[tactic(auto, unfolding(crate::specs::Locus::locus_refusal))]
 fn check_locus(order: usize, k_max: f64, n: usize, i: usize) -> Result<(), FreqError>
     ensures { refusal_of result ≡ locus_refusal order k_max n i 0 }

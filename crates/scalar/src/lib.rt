@@ -130,7 +130,7 @@ impl Quartic {
         }
     }
 
-    // The whole part of its value at w / 2^32. (Both are u64, whose bound is said: their products have up to 64 digits.)
+    // The whole part of its value at w / 2^32. (Both are u64 with a bound: as u32 they would be made u64 for their products.)
     fn at(self, w: u64) -> u64
         requires { w < 2 ^ 32 }
         ensures { result < 2 ^ 32 }

@@ -61,7 +61,7 @@ fn control_sensitivity_of(p: Complex, c: Complex) -> Complex
     c.divide_or_zero(one_plus_l)
 }
 
-// (Cosines and sines are two slices of each call, as the C interface lends them.)
+// A loop's responses. (Each takes cosines and sines as two slices, as the C interface lends them.)
 impl LoopShaping {
     // What `of` makes of the plant's and the controller's values.
     #[tactic(auto, using(crate::proofs::Responses::both_refused, crate::proofs::Responses::both_found))]

@@ -30,7 +30,7 @@ pub enum FreqError {
 }
 
 impl FreqError {
-    // (`u32::from` would not say that it is document 01's.)
+    // (A name, and no `From`: who reads `u32::from(e)` is not told that it is document 01's number.)
     pub fn number(self) -> u32
         ensures { result ≡ number_of self }
     {

@@ -3,8 +3,8 @@
 // it does after a read that failed, and one that reads a list its length, and that the places behind it stay.
 // Questions, kinds and calls stay the oracle's numbers, in the programs too: tools/oracle/README.md has them, and an enum
 // would be made from them by one more match, or turned back into the place of its counts. Lists stand in arrays of a fixed
-// size, there being no heap: what does not fit is cut off, or not asked. Each function that reads says `Ended`, since what a
-// call leaves is no invariant of a type.
+// size, there being no heap: what does not fit is cut off, or not asked. Most functions that read say `Ended`,
+// each for itself, since what a call leaves is no invariant of a type.
 #![tactic(auto)]
 
 ghost use Rattle.std.specs.Prelude.{◌≡◌, ◌<◌, Bool, false, IsErr, IsSome, IsTrue, MatchOption};
@@ -18,7 +18,7 @@ use std::{fmt, io};
 use wire::f64_to_bits;
 
 // Standard input. It ends where a read fails; that error is kept for the end of the program, and what was counted is
-// printed first. (So it is not handed on by `?`, of which each number that is read would have one.)
+// printed first. (So there is no `?`: each number that is read would need one.)
 #[derive(Drop)]
 pub struct Input {
     stdin: Stdin,
@@ -183,7 +183,7 @@ impl Count {
 }
 
 // The counts of each question, of cases that are right and of those that are wrong on purpose. `is_wrong` says which the
-// present case is. (An array of pairs would be indexed by it as a number.)
+// present case is. (Two fields: an array of two would be indexed by the flag made a number.)
 #[derive(Clone, Copy)]
 pub struct Tally {
     pub right: [Count; 16],
@@ -248,8 +248,8 @@ impl fmt::Display for Found {
     }
 }
 
-// Cases that are read, and the counts of their answers. (A program makes one, runs it and ends it: a function of these three
-// would be passed all that each is passed, and could promise nothing.)
+// Cases that are read, and the counts of their answers. (A program makes one, runs it and ends it: one function in
+// place of the three would be passed all that they are, and could promise nothing.)
 #[derive(Drop)]
 pub struct Replay {
     pub input: Input,
