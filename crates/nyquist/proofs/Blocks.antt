@@ -1,10 +1,10 @@
 -- The nearest point of a curve by blocks: the block with the least square has it. Assumes nothing.
-use Prim.Native.Nat.{ℕ, min}
+use Prim.Native.Nat.{ℕ, ◌-◌, min}
 use mathlib.Core.Path.{◌≡◌, refl, sym, ap, ◌∙◌}
 use mathlib.Core.Bool.{Bool, true, false, true≢false}
 use mathlib.Core.List.{List, [], ◌∷◌, ◌++◌, append-nil}
 use native.Mathlib.Omega.{arith}
-use lib.ListN.{length, length-append}
+use lib.ListN.{length, take, drop, length-append, length-take, length-drop}
 use lib.Ieee.{Float, lt, is_nan, of_bits}
 use Rattle.laws.specs.Choice.{lesser}
 use Rattle.laws.proofs.Order.{lt_not_trans}
@@ -106,3 +106,7 @@ no_points (x ∷ re) im h = absurd (omega arith)
 pub going_done : {whole_re whole_im : List Float} {least : Float} {deciding_re deciding_im : List Float} {size_re size_im : ℕ} {re im : List Float}
     → Going whole_re whole_im least deciding_re deciding_im size_re size_im re im → length re ≡ 0 → first_within least (points deciding_re deciding_im) ≡ nearest_of (points whole_re whole_im)
 going_done {re = re} {im = im} s h = blocks_done (rw (no_points re im h) at s.blocks)
+
+-- parts of two lists of one length have one length (a law that docs/PORT.md names, and no proof here needs)
+pub parts_same : (re im : List Float) → length re ≡ length im → (j k : ℕ) → length (take (k - j) (drop j re)) ≡ length (take (k - j) (drop j im))
+parts_same re im s j k = rw (length-take (k - j) (drop j re), length-take (k - j) (drop j im), length-drop j re, length-drop j im, s)

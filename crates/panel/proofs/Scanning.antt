@@ -2,7 +2,7 @@
 use Rattle.std.proofs.Common.{ℕ, ◌≡◌, ◌+◌, ◌*◌, ◌-◌, ◌^◌, ◌<◌, refl, ap, ◌∙◌, Bool, true, false, List, [], length, get_or, drop, None, arith}
 use Rattle.std.specs.Float.{nan}
 use mathlib.Core.Bool.{true≢false}
-use mathlib.Core.Path.{sym, subst}
+use mathlib.Core.Path.{sym}
 use Rattle.wire.specs.Bytes.{u64_at, f64_at}
 use Rattle.sweep.specs.Scan.{first_pair, cross_if}
 use Rattle.sweep.proofs.Scans.{pair_next}
@@ -63,8 +63,12 @@ module _ (which : Crossover) (l : List (List ℕ)) where
       let e : i + 1 - 1 ≡ i = omega arith in
       rw e (record { own = λ x h. (rw ev at k, rw ev at f) })
 
+  -- the side of the value
+  pub aside : (k : ℕ) {side : Side} {v : ℕ} → v ≡ pattern_at which l k → v < 2 ^ 64 → side ≡ side_of which v → Aside which side l k
+  aside k {side} {v} ev f e = record { own = λ x h. (rw (e, ← ev) (own_side which v x (rw e at h)), rw ev at f) }
+
   -- another value begins a run
   pub run_begins : (i : ℕ) {v : ℕ} → v ≡ pattern_at which l i → v < 2 ^ 64 → Aside which (side_of which v) l (i + 1 - 1)
   run_begins i {v} ev f =
       let e : i + 1 - 1 ≡ i = omega arith in
-      rw e (record { own = λ x h. (subst (λ (z : ℕ). lies_on which (side_of which v) z ≡ true) ev (own_side which v x h), rw ev at f) })
+      rw e (aside i ev f refl)
