@@ -18,7 +18,7 @@ fn frequency_at(omega_max: f64, n: usize, i: usize) -> f64
 
 // Writes the n frequencies into the first n places of the list. (The grid of gains takes the same three steps, with another
 // refusal and another point: one function of both would need a trait that says what a point is, and be longer, or be
-// passed a closure, and require that it may be called, which a public function does not.)
+// passed a closure, and require that it may be called, which a public function of the library does not.)
 #[tactic(auto, unfolding(crate::specs::Frequency::frequency_outcome, crate::specs::Frequency::frequency_grid), using(laws::proofs::Loops::filled_none, laws::proofs::Loops::filled_more, sweep::proofs::Answers::grid_let_through, sweep::proofs::Grids::grid_two, sweep::proofs::Grids::grid_most, sweep::proofs::Grids::grid_fits, sweep::proofs::Grids::grid_places, sweep::proofs::Grids::grid_filled))]
 pub fn fill_frequency_grid(omega_max: f64, n: usize, list: &mut [f64]) -> Result<(), FreqError>
     ensures { (outcome_of_grid result ≡ frequency_outcome omega_max n list.old) × (list.new ≡ frequency_grid omega_max n list.old) }
