@@ -5,3 +5,4 @@ pub mod Outcome
 pub mod Least
 pub mod Tables
 pub mod Signs
+pub mod Made

@@ -30,7 +30,11 @@ pub fn poles_of(parts: &[f64; 16]) -> [Complex; 8]
 pub fn put_poles(z: [Complex; 8], parts: &mut [f64; 16])
     ensures { parts.new ≡ parts_of z }
 {
-    parts.copy_from_slice(z.map(<[f64; 2]>::from).as_flattened());
+    *parts = array::from_fn(
+        |i|
+            requires { i < 16 }
+        { if i % 2 == 0 { z[i / 2].re } else { z[i / 2].im } },
+    );
 }
 
 // (No `From`: it would be from a tuple, whose three parts have no names.)

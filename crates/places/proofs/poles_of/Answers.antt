@@ -2,7 +2,7 @@ use Rattle.std.proofs.Common.{rules}
 use lib.Ieee.{nan}
 use Rattle.complex.specs.Complex.{new_of}
 use Rattle.places.specs.Complex.{pole_at}
-use Rattle.places.proofs.Made.{made_by}
+use Rattle.laws.proofs.Made.{made_by}
 use Rattle.places.proofs.poles_of.Goals as goal
 
 pub returns : goal.returns

@@ -1,11 +1,10 @@
-use Rattle.std.proofs.Common.{rules, ◌∙◌, ap, []}
-use Rattle.std.specs.List.{flat_map}
-use lib.Ieee.{nan}
-use Rattle.complex.specs.Complex.{values_of}
-use Rattle.places.proofs.Made.{mapped_by}
+use Rattle.std.proofs.Common.{rules, ℕ, ◌/◌, ◌%◌, cond, eqb}
+use lib.Ieee.{nan, Float}
+use Rattle.places.specs.Complex.{real_at, imaginary_at}
+use Rattle.laws.proofs.Made.{made_by}
 use Rattle.places.proofs.put_poles.Goals as goal
 
 pub returns : goal.returns
 returns c =
-    c.copy_from_slice.ensures.after ∙ c.as_flattened.ensures.value
-    ∙ ap (flat_map (λ l. l)) (mapped_by _ values_of _ (record { re = nan; im = nan }) [] (λ z l p q k. search rules) c.args.z c.map.result 8 c.map.ensures.items)
+    let part : ℕ → Float = λ i. cond (eqb (i % 2) 0) (real_at c.args.z (i / 2)) (imaginary_at c.args.z (i / 2)) in
+    made_by _ part _ nan (λ i r f' k. search rules) c.from_fn.result 16 c.from_fn.ensures.items
