@@ -1,16 +1,23 @@
--- A squared magnitude is a value of the format, and a NaN or not below zero. Assumes nothing.
+-- A squared magnitude is a value of the format, and a NaN or not below zero. So the largest of several magnitudes is the root of the largest square.
+-- Assumes nothing.
 use Prim.Native.Nat.{ℕ, ◌*◌}
-use mathlib.Core.Path.{◌≡◌, refl}
-use mathlib.Core.Bool.{Bool, true, false, not}
+use mathlib.Core.Path.{◌≡◌, refl, ◌∙◌}
+use mathlib.Core.Bool.{Bool, true, false, not, cond}
+use mathlib.Core.List.{List, [], ◌∷◌}
 use native.Mathlib.Nat.{zero-mul}
 use native.Mathlib.Omega.{arith}
 use borrow.Author.Tests.{le-ltb}
 use lib.Dec.{T}
 use lib.Ieee.{Float, nan, inf, fin, Format, binary64, up, down, round, sum, add, mul, lt, fits, of_bits}
+use lib.Ieee.Bits.{of_bits-fits}
 use lib.Ieee.Fits.{add-fits}
+use Rattle.laws.specs.Loops.{push_all}
+use Rattle.laws.specs.Choice.{greater}
 use Rattle.laws.proofs.Signs.{signed, round_signed}
 use Rattle.scalar.specs.Scalar.{f0}
-use Rattle.complex.specs.Complex.{magnitude_sq}
+use Rattle.scalar.specs.Sqrt.{sqrt_of}
+use Rattle.scalar.proofs.Monotone.{itself, sqrt_greater}
+use Rattle.complex.specs.Complex.{magnitude_sq, magnitude_of}
 use Rattle.complex.specs.declared.Complex.{Complex}
 
 -- a NaN, or a value whose sign is clear
@@ -68,3 +75,41 @@ square_not_below z = unsigned_not_below _ (sum_unsigned binary64 _ _ (square_uns
 pub square_fits : (z : Complex) → T (fits binary64 (magnitude_sq z))
 unfolding magnitude_sq
 square_fits z = add-fits binary64 _ _
+
+-- ---- the greatest of several magnitudes, by their squares
+
+-- what a square is, the greatest of several, and the 0 that the first one is held against
+pub record Square (m : Float) : Type 0 where
+  pub not_below : lt m f0 ≡ false
+  pub fit : T (fits binary64 m)
+
+pub no_square : Square f0
+no_square = record { not_below = unfold lt of_bits in refl; fit = of_bits-fits binary64 0 }
+
+pub no_root : f0 ≡ sqrt_of f0
+unfolding sqrt_of of_bits
+no_root = refl
+
+-- One magnitude more, against the greatest so far. A NaN square is never taken, and neither is its root; one that has overflowed to infinity or underflowed
+-- to 0 has the root that it is.
+module _ {m : Float} (sq : Square m) (z : Complex) where
+  pub square_greater : Square (greater itself m (magnitude_sq z))
+  unfolding greater
+  square_greater = go (lt m (magnitude_sq z))
+    where
+      go : (b : Bool) → Square (cond b (magnitude_sq z) m)
+      go true = record { not_below = square_not_below z; fit = square_fits z }
+      go false = sq
+
+  pub root_greater : sqrt_of (greater itself m (magnitude_sq z)) ≡ greater itself (sqrt_of m) (magnitude_of z)
+  unfolding magnitude_of
+  root_greater = sqrt_greater m (magnitude_sq z) sq.fit (square_fits z) sq.not_below
+
+-- the greatest of m and of what `of` makes of each z
+abbrev pub greatest_from : (Complex → Float) → Float → List Complex → Float
+greatest_from of m zs = push_all (λ (n : Float) (z : Complex). greater itself n (of z)) m zs
+
+-- The rounded root of the greatest square is the greatest of the rounded roots.
+pub root_greatest : (zs : List Complex) (m : Float) → Square m → sqrt_of (greatest_from magnitude_sq m zs) ≡ greatest_from magnitude_of (sqrt_of m) zs
+root_greatest [] m sq = refl
+root_greatest (z ∷ zs) m sq = root_greatest zs (greater itself m (magnitude_sq z)) (square_greater sq z) ∙ rw (root_greater sq z)

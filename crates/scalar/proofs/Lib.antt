@@ -5,4 +5,5 @@ pub mod Patterns
 pub mod Nearest
 pub mod Cases
 pub mod Monotone
+pub mod Neighbours
 pub mod Exact

@@ -31,13 +31,13 @@ unfolding of_bits le
 zero_least false e = rw (zero-mul (up e), zero-mul (down e)) tt
 zero_least true e = rw (zero-mul (up e), zero-mul (down e)) tt
 
-positive_above : (x : Float) → T (positive x) → T (above x)
+pub positive_above : (x : Float) → T (positive x) → T (above x)
 positive_above nan p = absurd p
 positive_above (inf s) p = absurd p
 positive_above (fin true m e) p = absurd p
 positive_above (fin false m e) p = p
 
-above_zero : (x : Float) → T (above x) → T (le f0 x)
+pub above_zero : (x : Float) → T (above x) → T (le f0 x)
 unfolding of_bits is_nan
 above_zero nan a = absurd a
 above_zero (inf true) a = absurd a

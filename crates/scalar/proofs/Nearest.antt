@@ -28,7 +28,7 @@ units_of (inf t) s a v = absurd v
 units_of (fin t m e) s a v = ap (λ (x : ℕ). x / down e) v.1 ∙ mul-div_cancel a (down_pos e)
 
 -- y has the sign s and is q * 2 ^ j units, q of at most 53 digits
-abbrev Grid : Float → Type 0
+abbrev pub Grid : Float → Type 0
 Grid y = (s : Bool) × (q : ℕ) × (j : ℕ) × HasValue y s (q * 2 ^ j) (2 ^ 1074) × (q < 2 ^ 53) × (j < 2046)
 
 fields_finite : (s : Bool) (t : ℕ) → T (finite (of_fields binary64 s 2047 t)) → ⊥
@@ -43,7 +43,7 @@ fields_grid s (suc x) t l h f = go (eq-or-lt_of_le (le_of_suc-le-suc l))
     go (inl e) = absurd (fields_finite s t (subst (λ (y : ℕ). T (finite (of_fields binary64 s y t))) e f))
     go (inr k) = subst Grid (sym (fields_normal s x t k)) (s, 2 ^ 52 + t, x, odd_sign 53 s (2 ^ 52 + t) x 1074, omega arith, omega arith)
 
-grid : (y : Float) → T (fits binary64 y) → T (finite y) → Grid y
+pub grid : (y : Float) → T (fits binary64 y) → T (finite y) → Grid y
 grid y h f =
     let b = to_bits binary64 y in
     let e = sym (of_bits-to_bits binary64 y h) ∙ of_bits_is b in
@@ -72,7 +72,7 @@ split q e p h l =
     )
 
 -- ---- between q * 2 ^ k and the next multiple of 2 ^ k lies no value of the format, for a q of 53 digits at least
-gap : (q k p j : ℕ) → 2 ^ 52 ≤ q → p < 2 ^ 53 → (p * 2 ^ j ≤ q * 2 ^ k) ⊎ ((q + 1) * 2 ^ k ≤ p * 2 ^ j)
+pub gap : (q k p j : ℕ) → 2 ^ 52 ≤ q → p < 2 ^ 53 → (p * 2 ^ j ≤ q * 2 ^ k) ⊎ ((q + 1) * 2 ^ k ≤ p * 2 ^ j)
 gap q k p j h l = elim (cases_lt j k) [
   | inl g ↦
       let room : 53 + j ≤ 52 + k = omega arith in
