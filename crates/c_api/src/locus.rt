@@ -60,9 +60,8 @@ pub extern "C" fn bazintroa_locus_point(
         gain.old gain.new poles.old poles.new count.old count.new
         ending.old ending.new ending_value.old ending_value.new }
 {
-    let open_loop_tf = places::transfer_fn(b, a, order);
     put_point(
-        root_locus::locus_point(open_loop_tf, k_max, n, i),
+        root_locus::locus_point_lent(b, a, order, k_max, n, i),
         gain,
         poles,
         count,

@@ -1,29 +1,26 @@
 -- The coefficients of the loop polynomial, and those of a polynomial from the first that counts. Assumes nothing.
-use Rattle.std.proofs.Common.{◌≡◌, ℕ, ◌+◌, ◌-◌, ◌<◌, ◌≤◌, Bool, true, false, cond, List, [], ◌∷◌, length, get_or, set, take, drop, refl, ◌∙◌, arith, length-drop, drop_of_length-le, take_all, ltb, le-ltb, lt-ltb, ltb-false, ne_eqb, lit<}
+use Rattle.std.proofs.Common.{◌≡◌, sym, map, ℕ, ◌+◌, ◌-◌, ◌≤◌, Bool, true, false, cond, List, [], ◌∷◌, length, take, drop, refl, ◌∙◌, arith, length-drop, drop_of_length-le, take_all, ltb, le-ltb, lt-ltb, ltb-false}
 use native.Mathlib.Numerals.{one-add}
 use Rattle.std.specs.Prelude.{not, Option, Some, None}
 use Rattle.std.specs.Option.{unwrap_or}
-use Rattle.std.specs.List.{position_or_len}
-use lib.Ieee.{Float, nan, binary64, add, mul, lt}
+use Rattle.std.specs.List.{position_or_len, range_with_len}
+use lib.Ieee.{Float, lt}
 use Rattle.laws.specs.Loops.{filled}
-use Rattle.laws.proofs.Loops.{filled_none, filled_more, take-filled}
-use Rattle.scalar.specs.Scalar.{f1, eps, abs_of}
+use Rattle.laws.proofs.Loops.{take-filled}
+use Rattle.laws.proofs.Made.{filled_map}
+use Rattle.scalar.specs.Scalar.{f0, eps, abs_of}
 use Rattle.transfer_fn.specs.declared.TransferFn.{TransferFn}
 use Rattle.root_locus.specs.Polynomial.{coefficient, nine_zeros, loop_polynomial, counting}
 
--- the three kinds of coefficients, the first in its place
 module _ (tf : TransferFn) (k : Float) where
-  pub coefficient_first : set nine_zeros 0 (add binary64 f1 (mul binary64 k (get_or tf.b 0 nan))) ≡ filled (coefficient tf k) nine_zeros 1
-  unfolding coefficient
-  coefficient_first = filled_more _ nine_zeros (filled_none _ nine_zeros) (lit< tt) refl
+  -- the array by its places: the polynomial's coefficients, and zeros past the order
+  abbrev pub placed : ℕ → Float
+  placed i = cond (ltb tf.order i) f0 (coefficient tf k i)
 
-  pub coefficient_middle : (i : ℕ) → 1 ≤ i → i < tf.order → add binary64 (get_or tf.a (i - 1) nan) (mul binary64 k (get_or tf.b i nan)) ≡ coefficient tf k i
-  unfolding coefficient
-  coefficient_middle i l h = rw (ne_eqb i 0 (λ (e : i ≡ 0). omega arith), lt-ltb i tf.order h)
-
-  pub coefficient_last : 1 ≤ tf.order → get_or tf.a (tf.order - 1) nan ≡ coefficient tf k tf.order
-  unfolding coefficient
-  coefficient_last l = rw (ne_eqb tf.order 0 (λ (e : tf.order ≡ 0). omega arith), le-ltb tf.order tf.order (omega arith))
+  pub coefficients_placed : tf.order ≤ 8 → map placed (range_with_len 0 9) ≡ filled (coefficient tf k) nine_zeros (tf.order + 1)
+  coefficients_placed m =
+      sym (filled_map (coefficient tf k) placed f0 9 (tf.order + 1) (omega arith)
+      (λ i l. rw (le-ltb tf.order i (omega arith))) (λ i l. rw (lt-ltb tf.order i (omega arith))))
 
   -- what is lent of the array
   pub polynomial_lent : take (tf.order + 1) (filled (coefficient tf k) nine_zeros (tf.order + 1)) ≡ loop_polynomial tf k

@@ -1,5 +1,5 @@
 -- Roots in an array of eight, whose places past the roots hold (0, 0). Assumes nothing.
-use Rattle.std.proofs.Common.{◌≡◌, ℕ, ◌-◌, List, ◌++◌, length, drop, take, replicate, take_at}
+use Rattle.std.proofs.Common.{◌≡◌, ℕ, ◌-◌, refl, List, ◌++◌, length, drop, take, replicate, take_at, drop_at}
 use Rattle.std.proofs.lemmas.List.{drop-replicate}
 use Rattle.laws.specs.Loops.{up_to, filled}
 use Rattle.laws.proofs.Loops.{length-up_to}
@@ -24,3 +24,8 @@ eight_padded zs = rw (drop-replicate (length zs) 8 (from_real f0))
 pub take_padded : (zs : List Complex) (n : ℕ) → length zs ≡ n → take n (padded zs) ≡ zs
 unfolding padded
 take_padded zs n h = take_at zs (replicate (8 - length zs) (from_real f0)) n h
+
+-- what is behind them
+pub drop_padded : (zs : List Complex) (n : ℕ) → length zs ≡ n → drop n (padded zs) ≡ replicate (8 - n) (from_real f0)
+unfolding padded
+drop_padded zs n h = rw (← h) (drop_at zs (replicate (8 - length zs) (from_real f0)) (length zs) refl)

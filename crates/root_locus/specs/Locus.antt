@@ -56,3 +56,7 @@ locus_point_at tf k-max n i =
     let gain = gain_at k-max n i in
     let left = counting (loop_polynomial tf gain) in
     point_at (locus_refusal tf.order k-max n i (degree_of left)) gain left
+
+-- the same by the coefficients b and a
+abbrev pub lent_point_at : List Float → List Float → ℕ → Float → ℕ → ℕ → Point
+lent_point_at b a order k-max n i = locus_point_at (record { b = b; a = a; order = order }) k-max n i

@@ -15,10 +15,13 @@ ghost use Rattle.root_locus.specs.Search.{eval_poly, begun, run};
 ghost use Rattle.root_locus.specs.Ending.{end_of};
 ghost use Rattle.root_locus.specs.Roots.{linear, quadratic, searched, search_end, padded, as_roots, degree_cases};
 ghost use Rattle.root_locus.specs.Stability.{stable};
-ghost use Rattle.root_locus.specs.Locus.{locus_refusal, point_of, locus_point_at};
+ghost use Rattle.root_locus.specs.Locus.{locus_refusal, point_of, locus_point_at, lent_point_at};
+ghost use Rattle.transfer_fn.specs.declared.TransferFn.{TransferFn};
 
 use complex::Complex;
 pub use ending::Ending;
+use std::array;
+use std::marker::Model;
 use sweep::FreqError;
 use transfer_fn::TransferFn;
 
@@ -105,7 +108,7 @@ fn start(degree: usize) -> &'static [[f64; 2]]
     }
 }
 
-// The starting points of a degree. (By place, as `loop_polynomial` says.)
+// The starting points of a degree. (By place: the check knows nothing of an array after `iter_mut().zip(..)`.)
 #[tactic(auto, unfolding(crate::specs::StartingPoints::starting_points, crate::specs::StartingPoints::starting_point, crate::specs::StartingPoints::as_complex), using(laws::proofs::Loops::filled_none, laws::proofs::Loops::filled_more, laws::proofs::Loops::arrived, crate::proofs::Padding::filled_padded, crate::proofs::Table::degree_pairs, crate::proofs::Table::degree_pair))]
 fn starting_points(degree: usize) -> [Complex; 8]
     requires { degree ≤ 8 }
@@ -133,10 +136,11 @@ fn eval_poly_complex(norm: &[f64], z: Complex) -> Complex
 
 // The method of Durand and Kerner: in up to 200 rounds each root moves by the polynomial's value there over the
 // product of its differences to the others, and the next one sees it moved. Where that product is too small the
-// root stays. (The loops are nested and have labels by a rule of the project: a root that stays goes on by its label, and
-// a round that settles leaves the outer one. They go by place, since each root is written while the others are read. The
-// ending is made once, behind them, as its definition is.)
-#[tactic(auto, unfolding(crate::specs::Search::one_round, crate::specs::Search::differences), using(laws::proofs::Loops::up_begin, laws::proofs::Loops::up_next, laws::proofs::Loops::up_end, crate::proofs::Rounds::root_skipped, crate::proofs::Rounds::round_more))]
+// root stays. A round keeps its largest squared change and takes no root: a change is below 1e-12 where its square is
+// below 1e-24. The search takes one, of the last round's square. (The loops are nested and have labels by a rule of the
+// project: a root that stays goes on by its label, and a round that settles leaves the outer one. They go by place,
+// since each root is written while the others are read. The ending is made once, behind them, as its definition is.)
+#[tactic(auto, unfolding(crate::specs::Search::one_round, crate::specs::Search::differences), using(laws::proofs::Loops::up_begin, laws::proofs::Loops::up_next, laws::proofs::Loops::up_end))]
 fn durand_kerner(norm: &[f64], z: &mut [Complex]) -> Ending
     requires { length z.old ≡ length norm.now }
     ensures roots { z.new ≡ (run norm.now 200 (begun z.old)).roots }
@@ -144,9 +148,9 @@ fn durand_kerner(norm: &[f64], z: &mut [Complex]) -> Ending
 {
     let degree = norm.len();
     let mut used: usize = 0;
-    let mut last_change = 0.0;
+    let mut last_square = 0.0;
     'rounds: for round in 0usize..200 {
-        let mut max_change = 0.0;
+        let mut max_square = 0.0;
         'roots: for i in 0..degree {
             let zi = z[i];
             let p_val = eval_poly_complex(norm, zi);
@@ -160,22 +164,23 @@ fn durand_kerner(norm: &[f64], z: &mut [Complex]) -> Ending
                 continue 'roots;
             }
             let update = p_val.divide_or_zero(denom);
-            let change = update.magnitude();
-            if change > max_change {
-                max_change = change;
+            let square = update.magnitude_sq();
+            if square > max_square {
+                max_square = square;
             }
             z[i] = zi.sub(update);
         }
         used = round + 1;
-        last_change = max_change;
-        if max_change < 1e-12 {
+        last_square = max_square;
+        if max_square < 1e-24 {
             break 'rounds;
         }
     }
-    Ending::of_rounds(used, last_change)
+    Ending::of_rounds(used, scalar::sqrt(last_square))
 }
 
-// The roots of degrees 4 to 8: the search on the coefficients over the leading one. (By place, as `loop_polynomial` says.)
+// The roots of degrees 4 to 8: the search on the coefficients over the leading one. (By place, as `starting_points` says. The
+// array that the search leaves is handed on as it is, with the zeros past its roots.)
 #[tactic(auto, unfolding(crate::specs::Roots::quotient_at), using(laws::proofs::Loops::filled_none, laws::proofs::Loops::filled_more))]
 fn companion_matrix_roots(lead: f64, rest: &[f64]) -> Roots
     requires { length rest.now ≤ 8 }
@@ -188,7 +193,11 @@ fn companion_matrix_roots(lead: f64, rest: &[f64]) -> Roots
     }
     let mut z = starting_points(degree);
     let ending = durand_kerner(&norm[..degree], &mut z[..degree]);
-    Roots::new(&z[..degree], ending)
+    Roots {
+        z,
+        count: degree,
+        ending: ending.unless_nan(&z[..degree]),
+    }
 }
 
 // c0 z + c1 = 0
@@ -260,30 +269,50 @@ impl Polynomial<'_> {
     }
 }
 
+// A transfer function whose coefficients are lent, so that none is copied. Contracts see it as the transfer function.
+#[derive(Drop)]
+struct LentTransferFn<'a> {
+    b: &'a [f64; 8],
+    a: &'a [f64; 8],
+    order: usize,
+}
+
+impl<'a> Model for LentTransferFn<'a> {
+    ghost Value = { TransferFn };
+
+    ghost view = { λ tf. record { b = tf.b.now; a = tf.a.now; order = tf.order } };
+}
+
 // A transfer function of an order from 1 to 8, around which a loop is closed.
-#[derive(Clone, Copy)]
-struct OpenLoop {
-    tf: TransferFn,
+#[derive(Drop)]
+struct OpenLoop<'a> {
+    tf: LentTransferFn<'a>,
     ghost least: { 1 ≤ tf.order },
     ghost most: { tf.order ≤ 8 },
 }
 
-impl OpenLoop {
-    // The loop polynomial at gain k, and zeros past its order. (The loop goes by places: the check knows nothing of an array
-    // after `iter_mut().zip(..)`, and a zip of a and b alone would still count the places of the polynomial.)
-    #[tactic(auto, using(laws::proofs::Loops::filled_more, laws::proofs::Loops::arrived, crate::proofs::Coefficients::coefficient_first, crate::proofs::Coefficients::coefficient_middle, crate::proofs::Coefficients::coefficient_last))]
+impl OpenLoop<'_> {
+    // The loop polynomial at gain k, and zeros past its order. (Made by place, as `coefficient` has its cases: an array that a
+    // loop fills is copied once more when it is handed back.)
     fn loop_polynomial(&self, k: f64) -> [f64; 9]
         ensures { result ≡ filled (coefficient self.now.tf k) nine_zeros (self.now.tf.order + 1) }
     {
-        let tf = self.tf;
-        let order = tf.order;
-        let mut poly = [0.0f64; 9];
-        poly[0] = 1.0 + k * tf.b[0];
-        for i in 1..order {
-            poly[i] = tf.a[i - 1] + k * tf.b[i];
-        }
-        poly[order] = tf.a[order - 1];
-        poly
+        let LentTransferFn { b, a, order } = &self.tf;
+        array::from_fn(
+            |i|
+                requires { (i < 9) × (order.now ≤ 8) }
+            {
+                if *order < i {
+                    0.0
+                } else if i == 0 {
+                    1.0 + k * b[0]
+                } else if i < *order {
+                    a[i - 1] + k * b[i]
+                } else {
+                    a[i - 1]
+                }
+            },
+        )
     }
 
     // The poles of the closed loop at gain k.
@@ -357,7 +386,6 @@ fn gain_at(k_max: f64, n: usize, i: usize) -> f64
 }
 
 // Point i of n of the root locus, with gains from 0 to k_max.
-#[tactic(auto, using(crate::proofs::Conditions::passing, crate::proofs::Conditions::point_turned_away, crate::proofs::Conditions::point_cubic, crate::proofs::Conditions::point_let_through))]
 pub fn locus_point(
     open_loop_tf: TransferFn,
     k_max: f64,
@@ -366,8 +394,26 @@ pub fn locus_point(
 ) -> Result<LocusPoint, FreqError>
     ensures { point_of result ≡ locus_point_at open_loop_tf k_max n i }
 {
-    check_locus(open_loop_tf.order, k_max, n, i)?;
-    let open_loop = OpenLoop { tf: open_loop_tf };
+    let TransferFn { b, a, order } = open_loop_tf;
+    locus_point_lent(&b, &a, order, k_max, n, i)
+}
+
+// The same of coefficients that are lent, as a host lends them: none is copied.
+#[tactic(auto, using(crate::proofs::Conditions::passing, crate::proofs::Conditions::point_turned_away, crate::proofs::Conditions::point_cubic, crate::proofs::Conditions::point_let_through))]
+pub fn locus_point_lent(
+    b: &[f64; 8],
+    a: &[f64; 8],
+    order: usize,
+    k_max: f64,
+    n: usize,
+    i: usize,
+) -> Result<LocusPoint, FreqError>
+    ensures { point_of result ≡ lent_point_at b.now a.now order k_max n i }
+{
+    check_locus(order, k_max, n, i)?;
+    let open_loop = OpenLoop {
+        tf: LentTransferFn { b, a, order },
+    };
     let gain = gain_at(k_max, n, i);
     let roots = open_loop.closed_loop_poles(gain)?;
     let poles = roots.z;
