@@ -28,7 +28,7 @@ pub fn table() -> Table<'static> {
     }
 }
 
-/// Loci of a degree, of so many functions.
+/// Loci of a degree, of so many functions. Gain, count and poles of both sides are compared to the bit.
 fn locus<const DEGREE: usize, const N: usize>(count: usize) -> Row<'static> {
     let random = &mut Random::new(DEGREE as u64);
     let functions: Vec<_> = (0..count)
@@ -63,6 +63,7 @@ fn locus<const DEGREE: usize, const N: usize>(count: usize) -> Row<'static> {
                 for i in 0..N {
                     let point = locus_point(black_box(tf), K_MAX, N, i);
                     let point = point.expect("it is not refused");
+                    all = fold(fold(all, point.gain), point.count as f64);
                     for pole in &point.poles[..point.count] {
                         all = fold(fold(all, pole.re), pole.im);
                     }
@@ -75,6 +76,7 @@ fn locus<const DEGREE: usize, const N: usize>(count: usize) -> Row<'static> {
             for tf in &theirs {
                 let locus = rust::compute_root_locus::<f64, DEGREE, N>(black_box(tf), K_MAX);
                 for point in locus.expect("it is not refused").points.iter() {
+                    all = fold(fold(all, point.gain), point.poles.len() as f64);
                     for pole in point.poles.iter() {
                         all = fold(fold(all, pole.re), pole.im);
                     }
