@@ -1,9 +1,9 @@
 -- A squared magnitude is a value of the format, and a NaN or not below zero. So the largest of several magnitudes is the root of the largest square.
 -- Assumes nothing.
 use Prim.Native.Nat.{ℕ, ◌*◌}
-use mathlib.Core.Path.{◌≡◌, refl, ◌∙◌}
+use mathlib.Core.Path.{◌≡◌, refl}
 use mathlib.Core.Bool.{Bool, true, false, not, cond}
-use mathlib.Core.List.{List, [], ◌∷◌}
+use mathlib.Core.List.{List}
 use native.Mathlib.Nat.{zero-mul}
 use native.Mathlib.Omega.{arith}
 use borrow.Author.Tests.{le-ltb}
@@ -11,12 +11,13 @@ use lib.Dec.{T}
 use lib.Ieee.{Float, nan, inf, fin, Format, binary64, up, down, round, sum, add, mul, lt, fits, of_bits}
 use lib.Ieee.Bits.{of_bits-fits}
 use lib.Ieee.Fits.{add-fits}
-use Rattle.laws.specs.Loops.{push_all}
 use Rattle.laws.specs.Choice.{greater}
+use Rattle.laws.proofs.Choice.{itself, greatest_from}
+use Rattle.laws.proofs.Loops.{pushed_through}
 use Rattle.laws.proofs.Signs.{signed, round_signed}
 use Rattle.scalar.specs.Scalar.{f0}
 use Rattle.scalar.specs.Sqrt.{sqrt_of}
-use Rattle.scalar.proofs.Monotone.{itself, sqrt_greater}
+use Rattle.scalar.proofs.Monotone.{sqrt_greater}
 use Rattle.complex.specs.Complex.{magnitude_sq, magnitude_of}
 use Rattle.complex.specs.declared.Complex.{Complex}
 
@@ -105,11 +106,7 @@ module _ {m : Float} (sq : Square m) (z : Complex) where
   unfolding magnitude_of
   root_greater = sqrt_greater m (magnitude_sq z) sq.fit (square_fits z) sq.not_below
 
--- the greatest of m and of what `of` makes of each z
-abbrev pub greatest_from : (Complex → Float) → Float → List Complex → Float
-greatest_from of m zs = push_all (λ (n : Float) (z : Complex). greater itself n (of z)) m zs
-
--- The rounded root of the greatest square is the greatest of the rounded roots.
-pub root_greatest : (zs : List Complex) (m : Float) → Square m → sqrt_of (greatest_from magnitude_sq m zs) ≡ greatest_from magnitude_of (sqrt_of m) zs
-root_greatest [] m sq = refl
-root_greatest (z ∷ zs) m sq = root_greatest zs (greater itself m (magnitude_sq z)) (square_greater sq z) ∙ rw (root_greater sq z)
+-- The rounded root of the greatest square is the greatest of the rounded roots. (Stated for readers: the root search takes its squares one by one, by
+-- `root_greater`.)
+pub root_greatest : (zs : List Complex) (m : Float) → Square m → sqrt_of (greatest_from itself magnitude_sq m zs) ≡ greatest_from itself magnitude_of (sqrt_of m) zs
+root_greatest = pushed_through sqrt_of _ _ Square (λ m z sq. (square_greater sq z, root_greater sq z))

@@ -1,4 +1,4 @@
--- The lesser of two by a key: choosing again and again is associative, where the key in the middle is no NaN. A monotone function keeps the choice.
+-- The lesser and the greater of two by a key: choosing the lesser again and again is associative, where the key in the middle is no NaN. A monotone function keeps the choice.
 -- Assumes nothing.
 use mathlib.Core.Path.{◌≡◌, refl, sym, ◌∙◌, ap}
 use mathlib.Core.Bool.{Bool, true, false, cond}
@@ -20,6 +20,14 @@ module _ {A : Type 0} (key : A → Float) where
   pub lesser_left : (m d : A) → lt (key d) (key m) ≡ false → m ≡ lesser key m d
   unfolding lesser
   lesser_left m d e = rw e
+
+  pub greater_taken : (m d : A) → lt (key m) (key d) ≡ true → d ≡ greater key m d
+  unfolding greater
+  greater_taken m d e = rw e
+
+  pub greater_left : (m d : A) → lt (key m) (key d) ≡ false → m ≡ greater key m d
+  unfolding greater
+  greater_left m d e = rw e
 
   -- the key of the lesser one is the lesser key
   pub lesser_key : (m d : A) → key (lesser key m d) ≡ lesser (λ (x : Float). x) (key m) (key d)
@@ -48,10 +56,13 @@ module _ {A : Type 0} (key : A → Float) where
       go false true e f = rw (f, e) (rw f)
       go false false e f = let g : lt (key d) (key m) ≡ false = lt_not_trans (key d) (key a) (key m) n e f in rw (f, e) (rw (g, f))
 
-  -- The least of m and of what `of` makes of each element of a list.
+  -- The least, and the greatest, of m and of what `of` makes of each element of a list.
   module _ {R : Type 0} (of : R → A) where
     abbrev pub least_from : A → List R → A
     least_from m l = push_all (λ (s : A) (r : R). lesser key s (of r)) m l
+
+    abbrev pub greatest_from : A → List R → A
+    greatest_from m l = push_all (λ (s : A) (r : R). greater key s (of r)) m l
 
     pub least_number : (l : List R) (a : A) → NotNan (key a) → NotNan (key (least_from a l))
     least_number [] a n = n
@@ -64,7 +75,7 @@ module _ {A : Type 0} (key : A → Float) where
         ap (λ (s : A). least_from s l) (lesser_assoc m a (of r) n) ∙ least_spread l m (lesser key a (of r)) (lesser_number a (of r) n)
 
 -- ---- A function that keeps how two floats compare, or gives both the same value, keeps which of the two is chosen.
-abbrev itself : Float → Float
+abbrev pub itself : Float → Float
 itself x = x
 
 module _ (f : Float → Float) (x y : Float) (kept : (f x ≡ f y) ⊎ (lt (f x) (f y) ≡ lt x y)) where

@@ -1,7 +1,7 @@
 -- The laws of loops that count up. Assumes nothing.
 -- A loop's invariant is one of two. `count_up f (d - i) i a ≡ w`: what is left to do gives the whole loop's outcome w; it begins by `up_begin`, goes on by
 -- `up_next` and ends by `up_end`. Or `a ≡ s i`: what is done so far is member i of a sequence s, a filled list or a sum; it ends by `arrived`.
-use mathlib.Core.Path.{◌≡◌, refl, sym, ◌∙◌}
+use mathlib.Core.Path.{◌≡◌, refl, sym, ap, ◌∙◌}
 use mathlib.Core.Logic.{inl, inr}
 use Prim.Native.Nat.{ℕ, zero, suc, ◌+◌, ◌-◌, ◌<◌, ◌≤◌}
 use native.Mathlib.Nat.{eq-or-lt_of_le}
@@ -71,3 +71,11 @@ module _ {A : Type 0} (g : ℕ → A) where
 pub pushed_append : {R S : Type 0} (f : S → R → S) (s : S) (l k : List R) → push_all f s (l ++ k) ≡ push_all f (push_all f s l) k
 pushed_append f s [] k = refl
 pushed_append f s (x ∷ l) k = pushed_append f (f s x) l k
+
+-- a function of what a run leaves, where it goes through each step from what keeps P
+pub pushed_through : {R A B : Type 0} (f : A → B) (step : A → R → A) (next : B → R → B) (P : A → Type 0)
+    → ((a : A) (x : R) → P a → P (step a x) × (f (step a x) ≡ next (f a) x)) → (l : List R) (a : A) → P a → f (push_all step a l) ≡ push_all next (f a) l
+pushed_through f step next P h [] a p = refl
+pushed_through {R} {A} {B} f step next P h (x ∷ l) a p =
+    let s = h a x p in
+    pushed_through f step next P h l (step a x) s.0 ∙ ap (λ (b : B). push_all next b l) s.1

@@ -12,7 +12,7 @@ use Rattle.std.specs.Float.{NotNan}
 use Rattle.laws.specs.Choice.{lesser}
 use Rattle.laws.proofs.Least.{least_append, least_passes, least_not_above}
 use Rattle.scalar.specs.Scalar.{f0}
-use Rattle.scalar.proofs.Monotone.{itself}
+use Rattle.laws.proofs.Choice.{itself}
 use Rattle.scalar.proofs.Exact.{one_times, zero_times, zero_over, over_itself, whole_positive}
 use Rattle.complex.specs.declared.Complex.{Complex}
 use Rattle.nyquist.specs.Curve.{point_distance, largest, least_distance, or_zero, distance_of}

@@ -11,10 +11,10 @@ use Rattle.std.proofs.lemmas.Float.{T_from_true, T_from_false, le_refl, lt_of_le
 use Rattle.std.specs.Prelude.{Option, Some, None}
 use Rattle.laws.specs.Choice.{lesser}
 use Rattle.laws.proofs.Order.{lt_numbers, not_lt_itself, not_le_of_lt}
-use Rattle.laws.proofs.Choice.{lesser_taken, lesser_left, lesser_key, least_from, least_number, least_spread}
+use Rattle.laws.proofs.Loops.{pushed_through}
+use Rattle.laws.proofs.Choice.{itself, lesser_taken, lesser_left, lesser_key, least_from, least_number, least_spread}
 use Rattle.laws.proofs.Least.{least_append}
 use Rattle.scalar.specs.Sqrt.{sqrt_of}
-use Rattle.scalar.proofs.Monotone.{itself}
 use Rattle.complex.specs.declared.Complex.{Complex}
 use Rattle.nyquist.specs.Curve.{point_square, least_square, infinity, or_zero, distance_of}
 use Rattle.nyquist.specs.Summary.{key_of, nearest_of, first_within}
@@ -36,10 +36,8 @@ nearest_number l = least_number key_of Some l None none_number
 -- ---- the square of the nearest point's distance is the least square, whose root is the distance of the curve
 
 key_least : (l : List Complex) (n : Option Complex) → key_of (least_from key_of Some n l) ≡ least_from itself point_square (key_of n) l
-key_least [] n = refl
-key_least (z ∷ l) n =
-    key_least l (lesser key_of n (Some z))
-    ∙ ap (λ (m : Float). least_from itself point_square m l) (lesser_key key_of n (Some z) ∙ (unfold key_of in refl))
+unfolding key_of
+key_least l n = pushed_through key_of _ _ (λ (n : Option Complex). Unit {0}) (λ n z u. (tt, lesser_key key_of n (Some z))) l n tt
 
 pub key_nearest : (l : List Complex) → key_of (nearest_of l) ≡ least_square l
 unfolding nearest_of least_square key_of

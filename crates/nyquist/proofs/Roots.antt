@@ -1,16 +1,17 @@
 -- The root of the least square is the least distance, where there is one, so that one root serves the whole curve. Assumes nothing.
 use mathlib.Core.Path.{◌≡◌, refl, sym, ap, ◌∙◌}
 use mathlib.Core.Bool.{Bool, true, false, cond}
-use mathlib.Core.List.{List, [], ◌∷◌}
+use mathlib.Core.List.{List}
 use lib.Dec.{T}
 use lib.Ieee.{Float, binary64, lt, is_nan, of_bits, fits}
 use lib.Ieee.Bits.{of_bits-fits}
 use Rattle.std.specs.Float.{NotNan}
 use Rattle.laws.specs.Choice.{lesser}
 use Rattle.laws.proofs.Order.{lt_not_trans}
-use Rattle.laws.proofs.Choice.{lesser_taken, lesser_left, least_from, least_number, least_spread}
+use Rattle.laws.proofs.Loops.{pushed_through}
+use Rattle.laws.proofs.Choice.{itself, lesser_taken, lesser_left, least_from, least_number, least_spread}
 use Rattle.scalar.specs.Sqrt.{sqrt_of}
-use Rattle.scalar.proofs.Monotone.{itself, sqrt_lesser}
+use Rattle.scalar.proofs.Monotone.{sqrt_lesser}
 use Rattle.complex.specs.Complex.{magnitude_of}
 use Rattle.complex.specs.declared.Complex.{Complex}
 use Rattle.complex.proofs.Squares.{square_not_below, square_fits}
@@ -31,10 +32,9 @@ unfolding point_square point_distance magnitude_of
 root_lesser m z h = sqrt_lesser m _ h (square_fits (from_critical z)) (square_not_below (from_critical z))
 
 root_least : (l : List Complex) (m : Float) → T (fits binary64 m) → sqrt_of (least_from itself point_square m l) ≡ least_from itself point_distance (sqrt_of m) l
-root_least [] m h = refl
-root_least (z ∷ l) m h =
-    root_least l (lesser itself m (point_square z)) (lesser_fits m (point_square z) h (unfold point_square in square_fits (from_critical z)))
-    ∙ ap (λ (d : Float). least_from itself point_distance d l) (root_lesser m z h)
+root_least =
+    pushed_through sqrt_of _ _ (λ (m : Float). T (fits binary64 m))
+    (λ m z h. (lesser_fits m (point_square z) h (unfold point_square in square_fits (from_critical z)), root_lesser m z h))
 
 -- ---- the scan begins at infinity, and the definition at the largest number: where they differ, both give 0
 

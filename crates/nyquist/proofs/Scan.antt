@@ -9,8 +9,7 @@ use lib.ListN.{length}
 use lib.Ieee.{Float, lt}
 use Rattle.std.specs.List.{zip}
 use Rattle.laws.specs.Choice.{lesser}
-use Rattle.laws.proofs.Choice.{lesser_taken, lesser_left, least_from}
-use Rattle.scalar.proofs.Monotone.{itself}
+use Rattle.laws.proofs.Choice.{itself, lesser_taken, lesser_left, least_from}
 use Rattle.sweep.proofs.Conditions.{scan_taken}
 use Rattle.complex.specs.Complex.{new_of}
 use Rattle.complex.specs.declared.Complex.{Complex}

@@ -4,10 +4,10 @@ use lib.Ieee.{Float, nan, binary64, add, lt, of_bits}
 use lib.Ieee.Bits.{of_bits-fits}
 use Rattle.laws.specs.Loops.{count_up, push_all}
 use Rattle.laws.specs.Choice.{greater}
+use Rattle.laws.proofs.Choice.{itself}
 use Rattle.laws.proofs.Loops.{length-up_to}
 use Rattle.scalar.specs.Scalar.{f0, eps}
 use Rattle.scalar.specs.Sqrt.{sqrt_of}
-use Rattle.scalar.proofs.Monotone.{itself}
 use Rattle.scalar.proofs.Neighbours.{root_below}
 use Rattle.complex.specs.declared.Complex.{Complex}
 use Rattle.complex.specs.Complex.{from_real, product, difference, magnitude_sq, small, quotient_or_zero}
@@ -34,16 +34,6 @@ module _ (z : List Complex) (i j : ℕ) (acc : Complex) where
   pub factor_left : {p : Complex} → j ≡ i → p ≡ acc → p ≡ factor z i j acc
   unfolding factor
   factor_left h e = rw (eq-eqb j i h, e)
-
--- the largest square, by a square that is above it or not
-module _ (largest square : Float) where
-  pub raised : {s : Float} → lt largest square ≡ true → s ≡ square → s ≡ greater itself largest square
-  unfolding greater
-  raised t e = rw (t, e)
-
-  pub kept : {s : Float} → lt largest square ≡ false → s ≡ largest → s ≡ greater itself largest square
-  unfolding greater
-  kept t e = rw (t, e)
 
 -- a round so far, by the square of its largest change
 abbrev pub by_square : List Complex → Float → Round

@@ -136,10 +136,11 @@ fn eval_poly_complex(norm: &[f64], z: Complex) -> Complex
 
 // The method of Durand and Kerner: in up to 200 rounds each root moves by the polynomial's value there over the
 // product of its differences to the others, and the next one sees it moved. Where that product is too small the
-// root stays. A round keeps its largest squared change and takes no root: a change is below 1e-12 where its square is
-// below 1e-24. The search takes one, of the last round's square. (The loops are nested and have labels by a rule of the
-// project: a root that stays goes on by its label, and a round that settles leaves the outer one. They go by place,
-// since each root is written while the others are read. The ending is made once, behind them, as its definition is.)
+// root stays. A round keeps its largest squared change and takes no root: a change is below 1e-12 exactly where its
+// square is below 1e-24. The search takes one, of the last round's square. (The loops are nested and have labels by a
+// rule of the project: a root that stays goes on by its label, and a round that settles leaves the outer one. They go by
+// place, since each root is written while the others are read. The ending is made once, behind them, as its definition
+// is.)
 #[tactic(auto, unfolding(crate::specs::Search::one_round, crate::specs::Search::differences), using(laws::proofs::Loops::up_begin, laws::proofs::Loops::up_next, laws::proofs::Loops::up_end))]
 fn durand_kerner(norm: &[f64], z: &mut [Complex]) -> Ending
     requires { length z.old ≡ length norm.now }

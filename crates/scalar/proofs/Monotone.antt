@@ -18,7 +18,7 @@ use Rattle.std.specs.Float.{NotNan}
 use Rattle.std.proofs.lemmas.Float.{T_from_true, T_from_false, le_left, le_right, le_trans, le_of_lt, le_of_not-lt, lt_of_le_of_lt}
 use Rattle.laws.specs.Choice.{lesser, greater}
 use Rattle.laws.proofs.Order.{greatest, not_lt_of_le, lt_numbers, le_antisym}
-use Rattle.laws.proofs.Choice.{greater_kept, lesser_kept}
+use Rattle.laws.proofs.Choice.{itself, greater_kept, lesser_kept}
 use Rattle.scalar.specs.Scalar.{f0}
 use Rattle.scalar.specs.Sqrt.{in_units, sqrt_of}
 use Rattle.scalar.proofs.Nearest.{own_units, sqrt_nearest, in_order, sqrt_fits}
@@ -141,9 +141,6 @@ sqrt_order x y h k z = go (lt x y) refl (lt (sqrt_of x) (sqrt_of y)) refl
         absurd (true≢false (sym g ∙ not_lt_of_le (sqrt_of y) (sqrt_of x) m))
 
 -- ---- the greater and the lesser of two, as the Rust's comparisons keep them: a NaN, or a root that is one, is never taken in place of a number
-abbrev pub itself : Float → Float
-itself x = x
-
 pub sqrt_greater : (m c : Float) → T (fits binary64 m) → T (fits binary64 c) → lt m f0 ≡ false → sqrt_of (greater itself m c) ≡ greater itself (sqrt_of m) (sqrt_of c)
 sqrt_greater m c h k z = grind (arith, greater_kept, sqrt_order)
 

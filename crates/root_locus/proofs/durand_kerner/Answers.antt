@@ -2,10 +2,10 @@ use Rattle.std.proofs.Common.{◌≡◌, refl, ap, ◌∙◌}
 use Rattle.laws.proofs.Loops.{up_begin, up_next, up_end}
 use Rattle.root_locus.specs.Search.{Run, one_round, begun, run}
 use Rattle.laws.specs.Choice.{greater}
-use Rattle.scalar.proofs.Monotone.{itself}
+use Rattle.laws.proofs.Choice.{itself, greater_taken, greater_left}
 use Rattle.scalar.specs.Sqrt.{sqrt_of}
 use Rattle.complex.proofs.Squares.{no_root, no_square, square_greater}
-use Rattle.root_locus.proofs.Rounds.{factor_taken, factor_left, raised, kept, root_skipped, root_moved, round_more, round_last, rounds_done}
+use Rattle.root_locus.proofs.Rounds.{factor_taken, factor_left, root_skipped, root_moved, round_more, round_last, rounds_done}
 use Rattle.root_locus.proofs.durand_kerner.Goals as goal
 use Rattle.root_locus.proofs.durand_kerner.Goals.{then-j-i, else-j-i, then-square-max_square, else-square-max_square, else-rounds-test, then-rounds-test+else-roots-test+then-max_square}
 
@@ -33,8 +33,8 @@ roots-preserved c =
     let sq = c.roots.invariant.1 in
     let larger : _ ≡ greater itself _ _ =
     elim c.if-square-max_square.branch [
-      | then-square-max_square w ↦ raised _ _ w.if-square-max_square.true w.max_square-is
-      | else-square-max_square w ↦ kept _ _ w.if-square-max_square.false w.max_square-is
+      | then-square-max_square w ↦ w.max_square-is ∙ greater_taken itself _ _ w.if-square-max_square.true
+      | else-square-max_square w ↦ w.max_square-is ∙ greater_left itself _ _ w.if-square-max_square.false
     ] in
     let larger' = rw c.magnitude_sq-square.ensures at larger in (
       up_next _ _ c.roots.invariant.0 c.roots-test.true

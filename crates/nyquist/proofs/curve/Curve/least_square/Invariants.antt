@@ -1,8 +1,7 @@
 use Rattle.std.proofs.Common.{◌≡◌}
 use Rattle.std.specs.Iterator.Adapters.{zip_first, zip_second}
 use Rattle.std.specs.Slice.Iter.{iter_rest}
-use Rattle.laws.proofs.Choice.{least_from}
-use Rattle.scalar.proofs.Monotone.{itself}
+use Rattle.laws.proofs.Choice.{itself, least_from}
 use Rattle.nyquist.specs.Curve.{points, point_square, least_square}
 use Rattle.nyquist.proofs.curve.Curve.least_square.Given as goal
 
