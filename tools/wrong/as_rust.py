@@ -45,7 +45,7 @@ def without_contracts(text):
     kept, depth, inside, clause = [], 0, False, False
     for line in text.split("\n"):
         if not inside:
-            if not re.match(r"\s*((requires|ensures)\b|(pub )?ghost |#!?\[tactic\b)|#\[unsafe\(no_mangle\)\]$|\s*#\[derive\(Drop\)\]$", line):
+            if not re.match(r"\s*((requires|ensures)\b|(pub )?ghost |#!?\[tactic\b)|#\[unsafe\(no_mangle\)\]$|#\[rattlefmt::|\s*#\[derive\(Drop\)\]$", line):
                 kept.append(line)
                 continue
             depth, clause = 0, bool(re.match(r"\s*(requires|ensures)\b", line))

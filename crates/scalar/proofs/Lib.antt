@@ -1,6 +1,5 @@
 pub mod Squares
 pub mod WholeRoot
-pub mod Division
 pub mod Patterns
 pub mod Nearest
 pub mod Cases

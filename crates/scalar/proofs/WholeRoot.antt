@@ -1,8 +1,9 @@
 -- What `root` and `rounded` give: the whole root by its two squares, and the rounded root of M * 4 ^ k for an M of 105 or 106 digits. Assumes nothing.
-use mathlib.Core.Path.{◌≡◌, sym, ap, ◌∙◌}
+use mathlib.Core.Path.{◌≡◌, sym, ap, ◌∙◌, subst}
 use mathlib.Core.Bool.{Bool, true, false, not, cond}
+use mathlib.Core.Logic.{inl, inr}
 use Prim.Native.Nat.{ℕ, zero, suc, ◌+◌, ◌-◌, ◌*◌, ◌/◌, ◌^◌, ◌≤◌, ◌<◌, compare, Ordering}
-use native.Mathlib.Nat.{lt_of_lt_of_le, lt_of_le_of_lt, lt_of_not-le, lt_irrefl, le_trans, le_of_eq, mul-le-mul, mul-le-mul_right, mul-lt-mul_of_pos_right, mul-div_cancel, mul_assoc, pow-suc}
+use native.Mathlib.Nat.{eq-zero-or-pos, lt_of_lt_of_le, lt_of_le_of_lt, lt_of_not-le, lt_irrefl, le_trans, le_of_eq, mul-le-mul, mul-le-mul_right, mul-lt-mul_of_pos_right, mul-div_cancel, mul_assoc, pow-suc}
 use native.Mathlib.Numerals.{add-one}
 use native.Mathlib.Omega.{arith}
 use lib.Dec.{T, leb, leb→le, nleb→lt}
@@ -10,6 +11,7 @@ use lib.Pow.{pow-add, pow_pos, pow_mono, shl_lt}
 use lib.Ieee.{Float, binary64, size, nearest, units}
 use lib.Ieee.Digits.{size-lt, size-le}
 use Rattle.scalar.specs.Sqrt.{extend, root, rounded}
+use Rattle.scalar.proofs.Squares.{square_next}
 
 -- ---- the whole root
 abbrev pub IsRoot : ℕ → ℕ → Type 0
@@ -92,3 +94,16 @@ module _ (m q e : ℕ) (lo : 2 ^ 52 ≤ m) (hi : m ≤ 2 ^ 54 - 2) (is : q * q +
 
   pub digits_up : q < e → Digits m (q + 1)
   digits_up h = grind (arith, at_least, rounded_up, lt_of_not-le, mul-le-mul, at_most)
+
+pred_square : (r : ℕ) → 0 < r → r * r ≡ (r - 1) * (r - 1) + 2 * (r - 1) + 1
+pred_square r h = grind (arith, square_next)
+
+-- ---- the nearest whole number to the root of m * 2 ^ 52
+pub nearest_is : (m r : ℕ) → 2 ^ 52 ≤ m → m ≤ 2 ^ 54 - 2 → m * 2 ^ 52 ≤ r * r + r → r * r < m * 2 ^ 52 + r → Digits m r
+nearest_is m r lo hi a b = elim (eq-zero-or-pos (r * r - m * 2 ^ 52)) [
+  | inl z ↦ digits_down m r (m * 2 ^ 52 - r * r) lo hi (omega arith) (omega arith) (omega arith)
+  | inr z ↦
+      let p : r - 1 + 1 ≡ r = omega arith in
+      let e = pred_square r (omega arith) in
+      subst (Digits m) p (digits_up m (r - 1) (m * 2 ^ 52 - (r - 1) * (r - 1)) lo hi (omega arith) (omega arith) (omega arith))
+]
