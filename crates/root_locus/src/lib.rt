@@ -375,15 +375,14 @@ fn check_locus(order: usize, k_max: f64, n: usize, i: usize) -> Result<(), FreqE
     Ok(())
 }
 
-// Gain i of n: evenly spaced from 0 to k_max.
+// Gain i of n: evenly spaced from 0 to k_max. (In one expression: where both conversions come first, the second goes to a
+// register that is not cleared, and a point waits for the poles of the one before.)
 #[tactic(auto, unfolding(crate::specs::Gain::gain_at))]
 fn gain_at(k_max: f64, n: usize, i: usize) -> f64
     requires { (2 ≤ n) × (n ≤ 4096) × (i < n) }
     ensures { result ≡ gain_at k_max n i }
 {
-    let at = i as f64;
-    let last = (n - 1) as f64;
-    k_max * at / last
+    k_max * i as f64 / (n - 1) as f64
 }
 
 // Point i of n of the root locus, with gains from 0 to k_max.
