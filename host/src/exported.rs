@@ -3,7 +3,12 @@
 //! a result, 100 for none, 101 for what is not kept, or the refusal. A place that is lent for the
 //! result is written only on 0.
 
+use std::marker::PhantomData;
+use std::mem::MaybeUninit;
+use std::ptr;
+
 use crate::bode::Reading;
+use crate::Complex;
 
 /// A reading of S and T.
 #[repr(C)]
@@ -78,6 +83,24 @@ pub struct CurvePlainFed {
     pub number: u32,
     pub reserved: u32,
     pub summary: CurvePlain,
+}
+
+/// A place for the parts of eight poles, which need not hold anything yet. Nothing is read through it.
+#[repr(transparent)]
+pub struct Poles<'a>(*mut [f64; 16], PhantomData<&'a mut [f64; 16]>);
+
+impl<'a> From<&'a mut [f64; 16]> for Poles<'a> {
+    #[inline]
+    fn from(place: &'a mut [f64; 16]) -> Self {
+        Poles(place, PhantomData)
+    }
+}
+
+impl<'a> From<&'a mut MaybeUninit<[Complex; 8]>> for Poles<'a> {
+    #[inline]
+    fn from(place: &'a mut MaybeUninit<[Complex; 8]>) -> Self {
+        Poles(ptr::from_mut(place).cast(), PhantomData)
+    }
 }
 
 /// Declares each function and wraps it. The arguments are those before the lists, the lists to read,
@@ -164,7 +187,7 @@ exported! {
 
     locus_point(
         b: &[f64; 8], a: &[f64; 8], order: usize, k_max: f64, n: usize, i: usize,
-        gain: &mut f64, poles: &mut [f64; 16], count: &mut usize,
+        gain: &mut f64, poles: Poles<'_>, count: &mut usize,
         ending: &mut u32, ending_value: &mut f64
     ) -> u32;
     stability_region(poles: &[f64; 16], count: usize) -> bool;
@@ -291,7 +314,7 @@ mod tests {
                 n,
                 i,
                 &mut gain,
-                &mut poles,
+                Poles::from(&mut poles),
                 &mut count,
                 &mut ending,
                 &mut ending_value,
@@ -322,7 +345,7 @@ mod tests {
             2,
             0,
             &mut gain,
-            &mut poles,
+            Poles::from(&mut poles),
             &mut count,
             &mut ending,
             &mut ending_value,

@@ -1,7 +1,9 @@
 //! The points of the root locus, the test of stability, the grid of gains.
 
+use crate::exported::{self, Poles};
 use crate::refusal::value;
-use crate::{exported, Complex, Refusal, TransferFn};
+use crate::{Complex, Refusal, TransferFn};
+use std::mem::MaybeUninit;
 use std::{array, fmt};
 
 /// How the search for the poles of a point ended. Broken comes first: where a part of a pole is NaN
@@ -54,7 +56,7 @@ impl Ending {
     #[inline]
     fn of_places(kind: u32, value: f64) -> Self {
         match kind {
-            0 => Ending::Settled(value as usize),
+            0 => Ending::Settled(value as u32 as usize),
             1 => Ending::Spent(value),
             _ => Ending::Broken,
         }
@@ -142,7 +144,7 @@ pub fn locus_point(
     i: usize,
 ) -> Result<LocusPoint, Refusal> {
     let TransferFn { b, a, order } = open_loop_tf;
-    let (mut gain, mut parts, mut count) = (0.0, [0.0; 16], 0);
+    let (mut gain, mut poles, mut count) = (0.0, MaybeUninit::uninit(), 0);
     let (mut kind, mut of_kind) = (0, 0.0);
     let number = exported::locus_point(
         b,
@@ -152,18 +154,19 @@ pub fn locus_point(
         n,
         i,
         &mut gain,
-        &mut parts,
+        Poles::from(&mut poles),
         &mut count,
         &mut kind,
         &mut of_kind,
     );
-    let point = LocusPoint {
+    value(number, ())?;
+    Ok(LocusPoint {
         gain,
-        poles: array::from_fn(|k| Complex::new(parts[2 * k], parts[2 * k + 1])),
+        // SAFETY: a point was found, and then each part of the eight poles is written: that is proved.
+        poles: unsafe { poles.assume_init() },
         count,
         ending: Ending::of_places(kind, of_kind),
-    };
-    value(number, point)
+    })
 }
 
 /// Whether no counted pole lies on the unit circle or outside: false exactly if one has a squared

@@ -2,7 +2,8 @@
 
 use crate::responses::described;
 use crate::tally::{bits, same_number, same_numbers, Comparison, Place};
-use bazintroa::{exported, locus_point, stability_region, Complex, Ending, LocusPoint, TransferFn};
+use bazintroa::exported::{self, Poles};
+use bazintroa::{locus_point, stability_region, Complex, Ending, LocusPoint, TransferFn};
 use vectors::coefficients::Coefficients;
 use vectors::ending;
 use vectors::locus::{
@@ -97,7 +98,7 @@ fn check(comparison: &mut Comparison, point: &Point, answer: &Answer) {
         n,
         i,
         &mut gain.lent[0],
-        &mut poles.lent,
+        Poles::from(&mut poles.lent),
         &mut counts[1],
         &mut kinds[1],
         &mut ending_value.lent[0],

@@ -1,7 +1,7 @@
 //! Scans, grids, evaluation and the points of the locus.
 
 use crate::draw::{check, length, lists, number, place, stayed, MARK};
-use bazintroa::exported;
+use bazintroa::exported::{self, Poles};
 use bazintroa::random::Random;
 use bazintroa::Reading;
 
@@ -106,7 +106,7 @@ fn point(random: &mut Random, b: &[f64; 8], a: &[f64; 8], order: usize) {
         n,
         i,
         &mut gain,
-        &mut poles,
+        Poles::from(&mut *poles),
         &mut count,
         &mut ending,
         &mut ending_value,
