@@ -56,6 +56,7 @@ impl Ending {
     #[inline]
     fn of_places(kind: u32, value: f64) -> Self {
         match kind {
+            // 200 at most, and u32 has the shorter conversion
             0 => Ending::Settled(value as u32 as usize),
             1 => Ending::Spent(value),
             _ => Ending::Broken,
@@ -162,7 +163,8 @@ pub fn locus_point(
     value(number, ())?;
     Ok(LocusPoint {
         gain,
-        // SAFETY: a point was found, and then each part of the eight poles is written: that is proved.
+        // SAFETY: a point was found, and then each part of the eight poles is written. That is proved:
+        // `PointAnswers` in crates/c_api/specs/Points.antt.
         poles: unsafe { poles.assume_init() },
         count,
         ending: Ending::of_places(kind, of_kind),

@@ -95,10 +95,10 @@ module _ (m q e : ℕ) (lo : 2 ^ 52 ≤ m) (hi : m ≤ 2 ^ 54 - 2) (is : q * q +
   pub digits_up : q < e → Digits m (q + 1)
   digits_up h = grind (arith, at_least, rounded_up, lt_of_not-le, mul-le-mul, at_most)
 
+-- ---- the nearest whole number to the root of m * 2 ^ 52
 pred_square : (r : ℕ) → 0 < r → r * r ≡ (r - 1) * (r - 1) + 2 * (r - 1) + 1
 pred_square r h = grind (arith, square_next)
 
--- ---- the nearest whole number to the root of m * 2 ^ 52
 pub nearest_is : (m r : ℕ) → 2 ^ 52 ≤ m → m ≤ 2 ^ 54 - 2 → m * 2 ^ 52 ≤ r * r + r → r * r < m * 2 ^ 52 + r → Digits m r
 nearest_is m r lo hi a b = elim (eq-zero-or-pos (r * r - m * 2 ^ 52)) [
   | inl z ↦ digits_down m r (m * 2 ^ 52 - r * r) lo hi (omega arith) (omega arith) (omega arith)

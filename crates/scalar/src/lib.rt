@@ -2,8 +2,8 @@
 //
 // The root is IEEE 754's, from bits and whole numbers alone. A positive finite x is m * 2^52 * 4^k squared
 // units of 2^-1074 with an m from 2^52 to 2^54, so that the root's 53 binary digits are those of √(m * 2^52),
-// rounded to a whole number. A polynomial guesses that number, and its square says whether the guess is right.
-// Where it is not, a whole root that is searched for takes its place.
+// rounded to a whole number. A polynomial guesses that number, and the guess's square says whether it is right.
+// Where it is not, a whole root is searched for and rounded.
 #![tactic(auto)]
 
 ghost use Rattle.std.specs.Prelude.{◌≡◌, ℕ, ◌+◌, ◌*◌, ◌-◌, ◌/◌, ◌%◌, ◌^◌, ◌<◌, ◌≤◌, false, MatchOption};
@@ -73,7 +73,7 @@ impl Normal {
     }
 
     // A guess at the root of the radicand's significand * 2^52: nearly always that root, rounded, and else the whole number
-    // beside it. The contract does not say so, since the guess is tested. (So nothing has to say that it wraps nowhere.)
+    // beside it. It has no contract, since it is tested. (Nor a proof that nothing wraps: nothing does.)
     fn guess(&self) -> u64 {
         // the exponent's parity and five digits choose the part, and 47 digits are the place in it
         let [c0, c1, c2, c3, c4, c5, c6, c7] = PARTS[(self.bits / 0x8000_0000_0000) as usize % 64];

@@ -3,7 +3,7 @@
 use crate::draw::{check, length, lists, number, place, stayed, MARK};
 use bazintroa::exported::{self, Poles};
 use bazintroa::random::Random;
-use bazintroa::Reading;
+use bazintroa::{locus_point, Reading, TransferFn};
 
 pub fn scan(random: &mut Random) {
     let mut out = place();
@@ -127,6 +127,18 @@ fn point(random: &mut Random, b: &[f64; 8], a: &[f64; 8], order: usize) {
         ended,
         "{answered} was answered, and the ending is {ending} with {ending_value}"
     );
+    // The same where the poles get a place that holds nothing. Each part is looked at, so that valgrind
+    // sees one that was not written.
+    let (b, a) = (*b, *a);
+    let safe = locus_point(&TransferFn { b, a, order }, k_max, n, i);
+    assert_eq!(safe.is_ok(), answered == 0, "{answered} was answered");
+    if let Ok(point) = safe {
+        let parts = point.poles.iter().flat_map(|pole| [pole.re, pole.im]);
+        let same = |(part, other): (f64, &f64)| {
+            part.to_bits() == other.to_bits() || part.is_nan() && other.is_nan()
+        };
+        assert!(parts.zip(poles.iter()).all(same), "the poles differ");
+    }
     exported::stability_region(&poles, whole(random));
 }
 
