@@ -3,10 +3,10 @@
 // The root is IEEE 754's, from bits and whole numbers alone. A positive finite x is m * 2^52 * 4^k squared
 // units of 2^-1074 with an m from 2^52 to 2^54, so that the root's 53 binary digits are those of √(m * 2^52),
 // rounded to a whole number. A polynomial guesses that number, and the guess's square says whether it is right.
-// Where it is not, a whole root is searched for and rounded.
+// Where it is not, one beside it nearly always is; else a whole root is searched for and rounded.
 #![tactic(auto)]
 
-ghost use Rattle.std.specs.Prelude.{◌≡◌, ℕ, ◌+◌, ◌*◌, ◌-◌, ◌/◌, ◌%◌, ◌^◌, ◌<◌, ◌≤◌, false, MatchOption};
+ghost use Rattle.std.specs.Prelude.{◌≡◌, ℕ, ◌+◌, ◌*◌, ◌-◌, ◌/◌, ◌%◌, ◌^◌, ◌<◌, ◌≤◌, false, IsTrue, MatchOption};
 ghost use Rattle.std.specs.Float.Ieee.Positive.{positive};
 ghost use Rattle.std.specs.Float.{binary64};
 ghost use Rattle.std.specs.Float.Ieee.{of_bits, units};
@@ -221,8 +221,37 @@ impl Radicand {
         let guess = self.guess as u128;
         match (guess * guess + guess).checked_sub(square) {
             Some(over) if over < 2 * guess => self.guess,
-            _ => nearest_root(square),
+            _ => nearest_beside(square, self.guess),
         }
+    }
+}
+
+// The whole number nearest to the root of a square, where the guess is not: nearly always one beside the guess.
+#[cold]
+#[inline(never)]
+fn nearest_beside(square: u128, guess: u64) -> u64
+    requires { (0 < square) × (square < 2 ^ 106) }
+    ensures { (result * result < square + result) × (square ≤ result * result + result) }
+{
+    let below = guess.saturating_sub(1);
+    if is_nearest(square, below) {
+        return below;
+    }
+    let above = guess.saturating_add(1);
+    if is_nearest(square, above) {
+        return above;
+    }
+    nearest_root(square)
+}
+
+// Whether a whole number is the nearest to the root of a square.
+fn is_nearest(square: u128, root: u64) -> bool
+    ensures { IsTrue result → (root * root < square + root) × (square ≤ root * root + root) }
+{
+    let root = root as u128;
+    match (root * root + root).checked_sub(square) {
+        Some(over) => over < 2 * root,
+        None => false,
     }
 }
 

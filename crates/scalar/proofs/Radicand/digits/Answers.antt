@@ -10,4 +10,4 @@ returns-in-Some c =
 pub returns-in_default : goal.returns-in_default
 returns-in_default c =
     let r = c.args.self in
-    nearest_is r.significand c.nearest_root.result r.digits.0 r.digits.1 c.nearest_root.ensures.1 c.nearest_root.ensures.0
+    nearest_is r.significand c.nearest_beside.result r.digits.0 r.digits.1 c.nearest_beside.ensures.1 c.nearest_beside.ensures.0
