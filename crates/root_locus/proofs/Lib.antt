@@ -9,3 +9,4 @@ pub mod Endings
 pub mod Laws
 pub mod Gains
 pub mod Lists
+pub mod Poles

@@ -1,15 +1,26 @@
-use Rattle.std.proofs.Common.{◌≡◌, min, length, take, rules}
-use Rattle.std.proofs.lemmas.List.{take_min}
-use Rattle.std.proofs.lemmas.Iterator.{YieldsList-from_slice, YieldsList-from_take}
-use Rattle.std.proofs.lemmas.Iterator.Search.{any_from_yields_List}
-use borrow.Author.Tests.{tests}
-use Rattle.root_locus.specs.Stability.{outside, none_outside, stable}
+use Rattle.std.proofs.Common.{◌≡◌, ◌<◌, ◌≤◌, min, length, refl, arith, rules}
+use Rattle.root_locus.specs.Stability.{stable}
+use Rattle.root_locus.proofs.Poles.{pole_inside, pole_outside, poles_done}
 use Rattle.root_locus.proofs.stability_region.Goals as goal
 
+pub loop-i-init : goal.loop-i-init
+unfolding stable
+loop-i-init c = refl
+
+pub returns-then-magnitude_sq : goal.returns-then-magnitude_sq
+returns-then-magnitude_sq c =
+    let long : length c.args.poles ≡ 8 = search rules in
+    let here : c.loop-i.i < min c.args.count 8 = search rules in
+    pole_outside _ (min c.args.count 8) _ (omega (arith, long)) c.loop-i.invariant here c.magnitude_sq.ensures c.if-magnitude_sq.true
+
+pub loop-i-preserved : goal.loop-i-preserved
+loop-i-preserved c =
+    let long : length c.args.poles ≡ 8 = search rules in
+    let here : c.loop-i.i < min c.args.count 8 = search rules in
+    pole_inside _ (min c.args.count 8) _ (omega (arith, long)) c.loop-i.invariant here c.magnitude_sq.ensures c.if-magnitude_sq.false
+
 pub returns : goal.returns
-unfolding stable none_outside outside
 returns c =
-    let any = any_from_yields_List outside _ _ _ c.any.ensures.ran (YieldsList-from_take c.args.count (YieldsList-from_slice c.args.poles (cc)) (cc)) (λ x b q k. search (rules, tests)) in
-    let eight : length c.args.poles ≡ 8 = search rules in
-    let e : take (min c.args.count 8) c.args.poles ≡ take c.args.count c.args.poles = rw eight at (take_min c.args.count c.args.poles) in
-    rw (any, e)
+    let long : length c.args.poles ≡ 8 = search rules in
+    let past : min c.args.count 8 ≤ c.loop-i.i = search rules in
+    poles_done _ (min c.args.count 8) _ (omega (arith, long)) c.loop-i.invariant past
