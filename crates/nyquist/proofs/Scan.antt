@@ -5,7 +5,8 @@ use mathlib.Core.Logic.{◌⊎◌, inl, inr}
 use mathlib.Core.List.{List, map, [], ◌∷◌, ◌++◌}
 use native.Mathlib.Omega.{arith}
 use borrow.Author.Tests.{eqb-true}
-use lib.ListN.{length}
+use lib.ListN.{length, take}
+use lib.Seq.{take-length}
 use lib.Ieee.{Float, lt}
 use Rattle.std.specs.List.{zip}
 use Rattle.laws.specs.Choice.{lesser}
@@ -34,6 +35,10 @@ unfolding points
 points_ended [] ys h = refl
 points_ended (x ∷ xs) [] h = refl
 points_ended (x ∷ xs) (y ∷ ys) h = elim h [ inl e ↦ cc | inr e ↦ cc ]
+
+-- the points of two lists of one length, of which the second is taken as long as the first
+pub points_as_long : (xs ys re im : List Float) → xs ≡ re → ys ≡ take (length re) im → length re ≡ length im → points xs ys ≡ points re im
+points_as_long xs ys re im e f same = rw (e, f, same, take-length im)
 
 -- ---- the loop that keeps the least square: a square is taken, or left
 module _ (m x y : Float) (xs ys : List Float) {s : Float} {z : Complex} (e : s ≡ point_square z) (f : z ≡ new_of x y) where

@@ -40,7 +40,9 @@ impl<'a> Curve<'a> {
         ensures { result ≡ least_square (points self.now.re.now self.now.im.now) }
     {
         let mut least = f64::INFINITY;
-        for (re, im) in self.re.iter().zip(self.im) {
+        // (As long as the other, so that one end is looked for and not two.)
+        let im = &self.im[..self.re.len()];
+        for (re, im) in self.re.iter().zip(im) {
             let square = point_square(Complex::new(*re, *im));
             if square < least {
                 least = square;

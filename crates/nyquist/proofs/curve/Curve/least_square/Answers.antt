@@ -1,12 +1,13 @@
-use Rattle.std.proofs.Common.{rules, ◌∙◌}
+use Rattle.std.proofs.Common.{rules, ap, ◌∙◌}
 use Rattle.std.proofs.lemmas.Slice.Zip.{Zip-more, either_empty_from_Zip}
-use Rattle.nyquist.specs.Curve.{least_square}
-use Rattle.nyquist.proofs.Scan.{least_taken, least_left, points_ended}
+use Rattle.laws.proofs.Choice.{itself, least_from}
+use Rattle.nyquist.specs.Curve.{infinity, point_square, least_square}
+use Rattle.nyquist.proofs.Scan.{least_taken, least_left, points_ended, points_as_long}
 use Rattle.nyquist.proofs.curve.Curve.least_square.Goals as goal
 
 pub loop-re-init : goal.loop-re-init
 unfolding least_square
-loop-re-init c = record { can = search rules; finite = tt; left = cc }
+loop-re-init c = record { can = search rules; finite = tt; left = ap (least_from itself point_square infinity) (points_as_long _ _ _ _ (search rules) (search rules) c.args.self.now.same) }
 
 pub loop-re-preserved-then-square-least : goal.loop-re-preserved-then-square-least
 loop-re-preserved-then-square-least c =
