@@ -65,11 +65,12 @@ fn ask<F: Fn(&[u8], &mut [u8]) -> u32>(
 
 // Reads and answers the rest of a case.
 fn answer(replay: &mut Replay, room: u64) {
+    // (First: behind the reads they were cleared twice.)
+    let mut bytes = [0; 100000];
     let room = room as usize;
     let pad = replay.input.number();
     let words = replay.input.number();
     let n = replay.input.number() as usize;
-    let mut bytes = [0; 100000];
     padded(&mut replay.input, &mut bytes, pad, words);
     match bytes.get(..n) {
         Some(readings) => {
