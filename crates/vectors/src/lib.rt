@@ -13,7 +13,7 @@ ghost use Rattle.vectors.specs.Made.{Made};
 ghost use Rattle.vectors.specs.Tally.{unmarked_of, known_of, one_more, none_asked, begun_with, counted_in, Counted};
 
 use places::Answer;
-use std::io::{ErrorKind, Print, Read, Stdin};
+use std::io::{ErrorKind, Print, Read, Stdin, Write};
 use std::{fmt, io};
 use wire::f64_to_bits;
 
@@ -225,11 +225,15 @@ impl Tally {
     }
 
     // A line for a question: how often it was asked, and how many answers differ; how many answers are wrong on
-    // purpose, and whether all of these were found to differ.
-    pub fn line(&self, rt: &impl Print, question: u64, name: &str) -> io::Result<()> {
-        let Count { asked, differ } = self.right[known(question)];
-        let found = Found(self.wrong[known(question)]);
-        println!(rt; "{name}: {asked} asked, {differ} differ; {found}")
+    // purpose, and whether all of these were found to differ. From question 16 on there is none.
+    pub fn line(&self, rt: &impl Print, question: usize, name: &[u8]) -> io::Result<()> {
+        if question < 16 {
+            let Count { asked, differ } = self.right[question];
+            let found = Found(self.wrong[question]);
+            io::writer(rt).write_all(name)?;
+            println!(rt; ": {asked} asked, {differ} differ; {found}")?;
+        }
+        Ok(())
     }
 }
 
@@ -352,7 +356,7 @@ impl Replay {
         ensures { IsSome self.input.failed → IsErr result }
     {
         for (question, name) in questions {
-            self.tally.line(rt, *question, name)?;
+            self.tally.line(rt, *question as usize, name.as_bytes())?;
         }
         self.input.end()
     }
