@@ -1,12 +1,12 @@
 -- The scan over a slice of readings gives what the scan over its three lists gives. Assumes nothing.
-use Rattle.std.proofs.Common.{◌≡◌, refl, ap, ◌∙◌, true, List, [], ◌∷◌, Option, Ok, Err, Float, ltb, length}
+use Rattle.std.proofs.Common.{ℕ, zero, suc, ◌<◌, ◌≡◌, refl, ap, ◌∙◌, true, List, [], ◌∷◌, Option, Ok, Err, Float, ltb, length, get_or, drop, arith}
 use lib.ListN.{length-map}
 use borrow.Author.Tests.{eq-eqb}
 use Rattle.laws.specs.Outcome.{when}
 use Rattle.sweep.specs.declared.FreqError.{FreqError}
 use Rattle.sweep.specs.Refusal.{number_of, scan_refusal, lists_refusal}
 use Rattle.sweep.specs.Answer.{outcome_of, scanned}
-use Rattle.sweep.specs.Scan.{first_pair, scanned_by}
+use Rattle.sweep.specs.Scan.{or_else, first_pair, scanned_by}
 use Rattle.sweep.proofs.Answers.{scan_turned_away, scan_let_through}
 use Rattle.bode.specs.Bode.{reading, readings, gain_pair, gain_crossover}
 use Rattle.bode.specs.Readings.{omegas, dbs, phases}
@@ -38,3 +38,11 @@ module _ (rs : List Reading) where
       → outcome_of (Ok (first_pair gain_pair rs)) ≡ scanned_by reading gain_crossover (omegas rs) (dbs rs) (phases rs)
   unfolding gain_crossover
   slice_let_through h = scan_let_through h (gain_crossover rs) ∙ scanned_slice gain_crossover
+
+-- what the slice says from a place on: what the two readings there say, or else those behind (no proof here needs it)
+pub left_more : (rs : List Reading) (i : ℕ) (other : Reading) → suc i < length rs
+    → first_pair gain_pair (drop i rs) ≡ or_else (gain_pair (get_or rs i other) (get_or rs (suc i) other)) (first_pair gain_pair (drop (suc i) rs))
+left_more [] i other h = absurd (omega arith)
+left_more (x ∷ []) i other h = absurd (omega arith)
+left_more (x ∷ y ∷ l) zero other h = refl
+left_more (x ∷ y ∷ l) (suc i) other h = left_more (y ∷ l) i other (omega arith)

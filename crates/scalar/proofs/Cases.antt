@@ -6,7 +6,7 @@ use native.Mathlib.Nat.{zero-lt-suc}
 use native.Mathlib.Omega.{arith}
 use lib.IntN.{ℤ}
 use lib.Dec.{T, ltb, lt→ltb}
-use lib.Ieee.{Float, nan, inf, fin, binary64, lt, is_nan, fits, of_bits, to_bits}
+use lib.Ieee.{Float, nan, inf, fin, binary64, lt, neg, is_nan, fits, of_bits, to_bits}
 use lib.Ieee.Fits.{up_pos}
 use lib.Ieee.Bits.{of_bits-fits, of_bits-to_bits, to_bits-lt}
 use lib.Ieee.Exact.{HasValue}
@@ -25,6 +25,15 @@ unfolding float_with_sign abs_of
 sign_cleared nan = refl
 sign_cleared (inf s) = refl
 sign_cleared (fin s m e) = refl
+
+-- the Rust's first test of it: below zero it is the negated value (no proof here needs it)
+pub below_zero : (x : Float) → lt x (of_bits binary64 0) ≡ true → neg x ≡ abs_of x
+unfolding lt neg of_bits abs_of
+below_zero nan h = refl
+below_zero (inf false) h = absurd (false≢true h)
+below_zero (inf true) h = refl
+below_zero (fin true m e) h = refl
+below_zero (fin false m e) h = absurd (grind (arith, up_pos))
 
 -- ---- what the comparisons with zero say
 -- to be above zero
