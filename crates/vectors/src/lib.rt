@@ -7,7 +7,7 @@
 // each for itself, since what a call leaves is no invariant of a type.
 #![tactic(auto)]
 
-ghost use Rattle.std.specs.Prelude.{◌≡◌, ◌<◌, Bool, false, IsErr, IsSome, IsTrue, MatchOption};
+ghost use Rattle.std.specs.Prelude.{◌≡◌, ◌<◌, ◌≤◌, Bool, false, IsErr, IsSome, IsTrue, MatchOption};
 ghost use Rattle.vectors.specs.Ended.{Ended};
 ghost use Rattle.vectors.specs.Made.{Made};
 ghost use Rattle.vectors.specs.Tally.{unmarked_of, known_of, one_more, none_asked, begun_with, counted_in, Counted};
@@ -224,9 +224,11 @@ impl Tally {
         }
     }
 
-    // A line for a question: how often it was asked, and how many answers differ; how many answers are wrong on
-    // purpose, and whether all of these were found to differ. From question 16 on there is none.
-    pub fn line(&self, rt: &impl Print, question: usize, name: &[u8]) -> io::Result<()> {
+    // The line at a question's place: how often it was asked, and how many answers differ; how many answers are wrong on
+    // purpose, and whether all of these were found to differ. From place 16 on there is none.
+    pub fn line_at(&self, rt: &impl Print, question: usize, name: &[u8]) -> io::Result<()>
+        ensures { 16 ≤ question → result ≡ Ok tt }
+    {
         if question < 16 {
             let Count { asked, differ } = self.right[question];
             let found = Found(self.wrong[question]);
@@ -234,6 +236,11 @@ impl Tally {
             println!(rt; ": {asked} asked, {differ} differ; {found}")?;
         }
         Ok(())
+    }
+
+    // The line of a question. One from 16 on counts as question 0, and has its line.
+    pub fn line(&self, rt: &impl Print, question: u64, name: &str) -> io::Result<()> {
+        self.line_at(rt, known(question), name.as_bytes())
     }
 }
 
@@ -356,7 +363,7 @@ impl Replay {
         ensures { IsSome self.input.failed → IsErr result }
     {
         for (question, name) in questions {
-            self.tally.line(rt, *question as usize, name.as_bytes())?;
+            self.tally.line_at(rt, *question as usize, name.as_bytes())?;
         }
         self.input.end()
     }
