@@ -7,35 +7,39 @@ use std::io;
 use std::io::{ErrorKind, Print};
 use vectors::Tally;
 
-// A printer that fails where there is something to print.
-#[derive(Clone, Copy)]
-struct Broken;
+// A printer that prints nothing, and fails on a line's name or on what stands behind it.
+#[derive(Clone, Copy, PartialEq)]
+enum Broken {
+    Name,
+    Rest,
+}
 
 impl Broken {
-    fn fail(&self) -> io::Result<()> {
-        Err(io::Error::from(ErrorKind::BrokenPipe))
+    // Takes this part of a line.
+    fn take(&self, part: Broken) -> io::Result<()> {
+        if *self == part {
+            return Err(io::Error::from(ErrorKind::BrokenPipe));
+        }
+        Ok(())
     }
 }
 
 impl Print for Broken {
     fn print<D: Display + Drop>(&self, _: D) -> io::Result<()> {
-        self.fail()
+        self.take(Broken::Rest)
     }
 
     fn println<D: Display + Drop>(&self, _: D) -> io::Result<()> {
-        self.fail()
+        self.take(Broken::Rest)
     }
 
-    fn write_all(&self, bytes: &[u8]) -> io::Result<()> {
-        if bytes.is_empty() {
-            return Ok(());
-        }
-        self.fail()
+    fn write_all(&self, _: &[u8]) -> io::Result<()> {
+        self.take(Broken::Name)
     }
 }
 
-// Question 3: two answers, of which one differs, and two that are wrong on purpose, both found. Question 15: one, and two
-// that are wrong on purpose, of which one is found. Question 16 is none: it counts as question 0.
+// Question 3: two answers, of which one differs, and two that are wrong on purpose, both found. Question 15: one, and
+// two that are wrong on purpose, of which one is found. Question 16 is none: it counts as question 0.
 fn counted() -> Tally {
     let mut tally = Tally::new();
     tally.begin(3);
@@ -70,20 +74,18 @@ fn by_place(rt: &impl Print, tally: &Tally) -> io::Result<()> {
     tally.line_at(rt, 3, &[0xff])
 }
 
-// What is not printed is told, of the name and of what stands behind it. Where there is no line nothing fails.
-fn unprinted(rt: &impl Print, tally: &Tally) -> io::Result<()> {
-    let name = tally.line(&Broken, 16, "question 16").is_err();
-    let unnamed = tally.line(&Broken, 16, "").is_err();
-    println!(rt; "by question, not printed: {name} {unnamed}")?;
-    let name = tally.line_at(&Broken, 15, b"place 15").is_err();
-    let unnamed = tally.line_at(&Broken, 15, b"").is_err();
-    let none = tally.line_at(&Broken, 16, b"place 16").is_ok();
-    println!(rt; "by place, not printed: {name} {unnamed}, none to print: {none}")
+// A part that is not printed is told. Where there is no line nothing fails.
+fn unprinted(rt: &impl Print, tally: &Tally, broken: Broken) -> io::Result<()> {
+    let line = tally.line(&broken, 16, "question 16").is_err();
+    let line_at = tally.line_at(&broken, 15, b"place 15").is_err();
+    let none = tally.line_at(&broken, 16, b"place 16").is_ok();
+    println!(rt; "not printed: {line} {line_at}, none to print: {none}")
 }
 
 fn main(rt: HostRuntime) -> io::Result<()> {
     let tally = counted();
     by_question(&rt, &tally)?;
     by_place(&rt, &tally)?;
-    unprinted(&rt, &tally)
+    unprinted(&rt, &tally, Broken::Name)?;
+    unprinted(&rt, &tally, Broken::Rest)
 }
